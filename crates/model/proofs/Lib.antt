@@ -1,0 +1,5 @@
+pub mod Sums
+pub mod Steps
+pub mod Digits
+pub mod Rounds
+pub mod Forbids
