@@ -1,0 +1,3 @@
+// Calls on a sheet and their answers.
+pub mod call;
+pub mod answer;
