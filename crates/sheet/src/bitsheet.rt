@@ -1,7 +1,9 @@
 // The bit sheet: for each record a row of 64 yes-or-no answers, bit v of row u for the mark from u to v.
 ghost use mathlib.Core.Path.{_≡_};
+ghost use mathlib.Core.Bool.{true};
 ghost use Prim.Native.Nat.{_<_};
 ghost use lib.ListN.{length, getD, set};
+ghost use Rattle.model.specs.Sets.{has, put};
 ghost use Rattle.sheet.specs.Meanings.{pairs, empty};
 ghost use Rattle.sheet.specs.Rows.{row-states, row-marks, ones-in, rows-meaning, Irreflexive, Present-from, Present-to};
 use crate::meaning::Sheet;
@@ -36,6 +38,15 @@ impl Rows {
         self.rows[u as usize] = row;
     }
 
+    // u is a record from now on.
+    fn set_present(&mut self, u: u8)
+        requires { ⌜ u < 64 ⌝ }
+        ensures present { λ _. ⌜ has (now (self .exit) .present) ≡ put (has (now (self .entry) .present)) u true ⌝ }
+        ensures rows { λ _. ⌜ now (self .exit) .rows ≡ now (self .entry) .rows ⌝ }
+    {
+        self.present = with_bit(self.present, u as usize);
+    }
+
     // The ones counted over the rows: as many as marked pairs.
     fn count(&self) -> u16
         ensures ones { λ r. ⌜ r ≡ ones-in (now (self .entry) .rows) ⌝ }
@@ -66,7 +77,10 @@ impl BitSheet {
         ensures { λ r. ⌜ rows-meaning (r .table .present) (r .table .rows) ≡ empty 4032 ⌝ }
     {
         BitSheet {
-            table: Rows { present: 0, rows: [0; 64] },
+            table: Rows {
+                present: 0,
+                rows: [0; 64],
+            },
         }
     }
 }
@@ -107,7 +121,7 @@ pub impl Sheet for BitSheet as BitSheetSheet {
         if has_bit(self.table.present, u as usize) {
             return Err(Decline::AlreadyStands);
         }
-        self.table.present = with_bit(self.table.present, u as usize);
+        self.table.set_present(u);
         Ok(())
     }
 

@@ -1,0 +1,2 @@
+// Grading what stands on a sheet: on any scale, and loose, strict and unit grading in whole numbers.
+mod graph;
