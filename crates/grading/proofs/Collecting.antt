@@ -15,7 +15,7 @@ use Rattle.model.proofs.Digits.{has-zero}
 use Rattle.grading.specs.Graphs.{Collected, both-in}
 
 pub none-collected : (f : ℕ → Bool) → Collected f 0 0
-none-collected f k = has-zero k
+none-collected f k = let l : 0 ≤ k = omega arith in has-zero k ∙ rw (le-ltb k 0 l)
 
 -- a test below v + 1: below v, and at v
 below-next : (f : ℕ → Bool) (v k : ℕ) → (k ≡ v → ⊥) → (ltb k (v + 1) && f k) ≡ (ltb k v && f k)

@@ -1,1 +1,5 @@
 pub mod Collecting
+pub mod Drawing
+pub mod Rounds
+pub mod Spelling
+pub mod Checked

@@ -17,6 +17,10 @@ Collected f n word = (k : ℕ) → has word k ≡ (ltb k n && f k)
 abbrev pub both-in : ℕ → ℕ → ℕ → Bool
 both-in set u v = has set u && (has set v && not (eqb u v))
 
+-- u and v are in the set, and rows has no bit from one to the other
+abbrev pub unmarked-from : ℕ → List ℕ → ℕ → ℕ → Bool
+unmarked-from set rows u v = both-in set u v && (not (has (getD rows u 0) v) && not (has (getD rows v 0) u))
+
 -- the first n rows are the marks of the view
 pub record Mark-rows (w : View) (n : ℕ) (rows : List ℕ) : Type 0 where
   pub long : length rows ≡ 64

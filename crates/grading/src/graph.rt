@@ -1,13 +1,10 @@
 // What stands and its steps as adjacency rows, read once from a sheet of any make.
 ghost use mathlib.Core.Path.{_≡_};
-ghost use mathlib.Core.Bool.{Bool, true, cond, not, _&&_};
+ghost use mathlib.Core.Bool.{Bool};
 ghost use Prim.Native.Nat.{ℕ, _+_, _<_};
-ghost use lib.ListN.{length, getD};
-ghost use Rattle.model.specs.Sets.{has};
-ghost use Rattle.model.specs.Views.{is-mark, is-hop};
-ghost use Rattle.sheet.specs.States.{is-standing};
+ghost use Rattle.model.specs.Views.{is-mark};
 ghost use Rattle.sheet.specs.Views.{view-of};
-ghost use Rattle.grading.specs.Graphs.{Collected, both-in, Mark-rows, Draws};
+ghost use Rattle.grading.specs.Graphs.{Collected, both-in, unmarked-from, Mark-rows, Draws};
 use model::bits::has_bit;
 use model::bits::with_bit;
 use sheet::meaning::Sheet;
@@ -45,14 +42,21 @@ fn both(standing: u64, u: usize, v: usize) -> bool
     has_bit(standing, u) & (has_bit(standing, v) & !(u == v))
 }
 
-// The marks from u. Only pairs of standing records are asked for.
+// Whether a mark leads from u to v. The sheet is asked of two standing records alone.
+fn is_marked<S: Sheet>(sheet: &S, standing: u64, u: usize, v: usize) -> bool
+    requires { ⌜ (u < 64) × (v < 64) × Collected (view-of S·Sheet (now sheet) .stands) 64 standing ⌝ }
+    ensures { λ r. ⌜ r ≡ is-mark (view-of S·Sheet (now (sheet .entry))) u v ⌝ }
+{
+    both(standing, u, v) && sheet.marked(u as u8, v as u8)
+}
+
 fn mark_row<S: Sheet>(sheet: &S, standing: u64, u: usize) -> u64
     requires { ⌜ (u < 64) × Collected (view-of S·Sheet (now sheet) .stands) 64 standing ⌝ }
     ensures { λ r. ⌜ Collected (is-mark (view-of S·Sheet (now (sheet .entry))) u) 64 r ⌝ }
 {
     let mut row = 0;
     for v in 0..64 {
-        row = collect_bit(row, v, both(standing, u, v) && sheet.marked(u as u8, v as u8));
+        row = collect_bit(row, v, is_marked(sheet, standing, u, v));
     }
     row
 }
@@ -71,7 +75,7 @@ fn mark_rows<S: Sheet>(sheet: &S, standing: u64) -> [u64; 64]
 // The hops from u: to every other standing record that no mark leads to or from.
 fn hop_row(standing: u64, marks: &[u64; 64], u: usize) -> u64
     requires { ⌜ u < 64 ⌝ }
-    ensures { λ r. ⌜ Collected (λ v. both-in standing u v && (not (has (getD (now (marks .entry)) u 0) v) && not (has (getD (now (marks .entry)) v 0) u))) 64 r ⌝ }
+    ensures { λ r. ⌜ Collected (unmarked-from standing (now (marks .entry)) u) 64 r ⌝ }
 {
     let mut row = 0;
     for v in 0..64 {

@@ -23,7 +23,7 @@ pub two-from : (w : View) (u v : ℕ) → w .stands u ≡ true → w .stands v �
 unfolding two
 two-from w u v p q n = rw (p, q, ne-eqb u v n)
 
-two-turned : (w : View) (u v : ℕ) → two w u v ≡ true → two w v u ≡ true
+pub two-turned : (w : View) (u v : ℕ) → two w u v ≡ true → two w v u ≡ true
 unfolding two
 two-turned w u v e =
     let p = and-parts (w .stands u) (w .stands v && not (eqb u v)) e in
