@@ -3,3 +3,4 @@ mod graph;
 mod relax;
 mod descent;
 pub mod grade;
+pub mod kinds;

@@ -1,0 +1,42 @@
+// Loose, strict and unit grading: grading on the whole scale, on the pair of whole and unit, and on the unit scale,
+// told in whole numbers. Memory and refusals are those of grade.
+ghost use Rattle.sheet.specs.Views.{view-of};
+ghost use Rattle.grading.specs.Outcomes.{memory as brought};
+ghost use Rattle.grading.specs.Kinds.{Loose-grades, Strict-grades, Unit-grades};
+use crate::grade::grade;
+use model::decline::Decline;
+use model::thresholds::Thresholds;
+use scale::pair::Pair;
+use scale::pair::PairScale;
+use scale::unit::Unit;
+use scale::unit::UnitScale;
+use scale::whole::Whole;
+use scale::whole::WholeScale;
+use sheet::meaning::Sheet;
+
+// The highest loose grading to the denominator 1 without a grade above 0.
+pub fn loose<S: Sheet>(sheet: &S, thresholds: Thresholds, grades: &mut [Whole], ring: &mut [u8], values: &mut [Whole], bytes: &mut [u8]) -> Result<(), Decline>
+    ensures { λ r. ⌜ Loose-grades (view-of S·Sheet (now (sheet .entry))) thresholds
+        (brought (now (grades .entry)) (now (ring .entry)) (now (values .entry)) (now (bytes .entry)))
+        (brought (now (grades .exit)) (now (ring .exit)) (now (values .exit)) (now (bytes .exit))) r ⌝ }
+{
+    grade(sheet, thresholds, grades, ring, values, bytes)
+}
+
+// The greatest pairs a, b that stand for a strict grading 128·a + b to the denominator 128.
+pub fn strict<S: Sheet>(sheet: &S, thresholds: Thresholds, grades: &mut [Pair<Whole, Unit>], ring: &mut [u8], values: &mut [Pair<Whole, Unit>], bytes: &mut [u8]) -> Result<(), Decline>
+    ensures { λ r. ⌜ Strict-grades (view-of S·Sheet (now (sheet .entry))) thresholds
+        (brought (now (grades .entry)) (now (ring .entry)) (now (values .entry)) (now (bytes .entry)))
+        (brought (now (grades .exit)) (now (ring .exit)) (now (values .exit)) (now (bytes .exit))) r ⌝ }
+{
+    grade(sheet, thresholds, grades, ring, values, bytes)
+}
+
+// The highest grading in which every mark leads up by at least 1 and every hop not at all.
+pub fn unit<S: Sheet>(sheet: &S, grades: &mut [Unit], ring: &mut [u8], values: &mut [Unit], bytes: &mut [u8]) -> Result<(), Decline>
+    ensures { λ r. ⌜ Unit-grades (view-of S·Sheet (now (sheet .entry)))
+        (brought (now (grades .entry)) (now (ring .entry)) (now (values .entry)) (now (bytes .entry)))
+        (brought (now (grades .exit)) (now (ring .exit)) (now (values .exit)) (now (bytes .exit))) r ⌝ }
+{
+    grade(sheet, Thresholds { t1: 1, t2: 0 }, grades, ring, values, bytes)
+}
