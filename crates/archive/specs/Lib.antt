@@ -1,0 +1,4 @@
+pub mod Listed
+pub mod Told
+pub mod Runs
+pub mod Right

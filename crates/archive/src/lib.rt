@@ -1,3 +1,6 @@
-// Calls on a sheet and their answers.
-pub mod call;
+// Calls on a sheet of any make, and their answers.
 pub mod answer;
+pub mod call;
+mod grades;
+mod listing;
+pub mod replay;

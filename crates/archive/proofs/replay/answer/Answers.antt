@@ -1,0 +1,65 @@
+use mathlib.Core.Path.{_≡_, refl, sym, ap, _∙_, subst}
+use Prim.Native.Nat.{ℕ}
+use Rattle.std.specs.Vec.{made}
+use Rattle.model.specs.declared.decline.Decline.the-variants.{WrongLine}
+use Rattle.sheet.specs.Views.{meaning-of}
+use Rattle.archive.specs.declared.call.Call.{Call}
+use Rattle.archive.specs.Runs.{next}
+use Rattle.archive.specs.Right.{Plain, declined, Right}
+use Rattle.archive.proofs.replay.answer.Needs as need
+
+pub returns-in-Enter : need.returns-in-Enter
+returns-in-Enter g c =
+    let m = meaning-of (g .S·Sheet) (c .args .sheet .now) in
+    record {
+      meaning = c .enter .ensures .meaning ∙ ap (next m) (sym (c .in-Enter .is));
+      right = subst (λ (k : Call). Right m k (c .plain .result)) (sym (c .in-Enter .is)) (subst (λ (n : ℕ). Plain n (c .plain .result)) (c .enter .ensures .answer) (c .plain .ensures));
+    }
+
+pub returns-in-Mark : need.returns-in-Mark
+returns-in-Mark g c =
+    let m = meaning-of (g .S·Sheet) (c .args .sheet .now) in
+    record {
+      meaning = c .mark .ensures .meaning ∙ ap (next m) (sym (c .in-Mark .is));
+      right = subst (λ (k : Call). Right m k (c .plain-in-Mark .result)) (sym (c .in-Mark .is)) (subst (λ (n : ℕ). Plain n (c .plain-in-Mark .result)) (c .mark .ensures .answer) (c .plain-in-Mark .ensures));
+    }
+
+pub returns-in-Strike : need.returns-in-Strike
+returns-in-Strike g c =
+    let m = meaning-of (g .S·Sheet) (c .args .sheet .now) in
+    record {
+      meaning = c .strike .ensures .meaning ∙ ap (next m) (sym (c .in-Strike .is));
+      right = subst (λ (k : Call). Right m k (c .plain-in-Strike .result)) (sym (c .in-Strike .is)) (subst (λ (n : ℕ). Plain n (c .plain-in-Strike .result)) (c .strike .ensures .answer) (c .plain-in-Strike .ensures));
+    }
+
+pub returns-in-Loose : need.returns-in-Loose
+returns-in-Loose g c =
+    let m = meaning-of (g .S·Sheet) (c .args .sheet .now) in
+    record {
+      meaning = ap (next m) (sym (c .in-Loose .is));
+      right = subst (λ (k : Call). made (c .loose-answer .result) (Right m k)) (sym (c .in-Loose .is)) (c .loose-answer .ensures);
+    }
+
+pub returns-in-Strict : need.returns-in-Strict
+returns-in-Strict g c =
+    let m = meaning-of (g .S·Sheet) (c .args .sheet .now) in
+    record {
+      meaning = ap (next m) (sym (c .in-Strict .is));
+      right = subst (λ (k : Call). made (c .strict-answer .result) (Right m k)) (sym (c .in-Strict .is)) (c .strict-answer .ensures);
+    }
+
+pub returns-in-Unit : need.returns-in-Unit
+returns-in-Unit g c =
+    let m = meaning-of (g .S·Sheet) (c .args .sheet .now) in
+    record {
+      meaning = ap (next m) (sym (c .in-Unit .is));
+      right = subst (λ (k : Call). made (c .unit-answer .result) (Right m k)) (sym (c .in-Unit .is)) (c .unit-answer .ensures);
+    }
+
+pub returns-in-Wrong : need.returns-in-Wrong
+returns-in-Wrong g c =
+    let m = meaning-of (g .S·Sheet) (c .args .sheet .now) in
+    record {
+      meaning = ap (next m) (sym (c .in-Wrong .is));
+      right = subst (λ (k : Call). Right m k _) (sym (c .in-Wrong .is)) (declined WrongLine refl);
+    }
