@@ -7,7 +7,7 @@ use Prim.Native.Nat.{ℕ, zero, suc, _+_, _*_, _≤_, _<_}
 use native.Mathlib.Omega.{arith}
 use native.Mathlib.Nat.{suc-mul, zero-mul}
 use borrow.Author.Differences.{ints}
-use lib.IntN.{ℤ, pos, negℤ, sucℤ, _+ℤ_, _-ℤ_, _*ℤ_, zero-*ℤ, sucℤ-*ℤ}
+use lib.IntN.{ℤ, pos, negℤ, natAbs, _+ℤ_, _-ℤ_, _*ℤ_, zero-*ℤ, sucℤ-*ℤ}
 use lib.Signed.{ltZ, _≤ℤ_}
 use Rattle.std.proofs.shelf.Tests.{or-left, or-right, or-cases}
 use Rattle.model.specs.declared.thresholds.Thresholds.{Thresholds}
@@ -31,6 +31,7 @@ pub record Numbered {V : Type 0} (s : Ghosts V) (t : Thresholds) (number : V →
   pub less : (a b : V) → s .less a b ≡ ltZ (number a) (number b)
   pub mark : number (s .mark t) ≡ negℤ (pos (t .t1))
   pub hop : number (s .hop t) ≡ pos (t .t2)
+  pub size : (a : V) → s .extent a 64 → natAbs (number a) ≤ 64000000
 
 -- d times a sum
 spread : (d : ℕ) (a b : ℤ) → pos d *ℤ (a +ℤ b) ≡ (pos d *ℤ a) +ℤ (pos d *ℤ b)
@@ -109,6 +110,7 @@ module _ {V : Type 0} (s : Ghosts V) (laws : Lawful s) (t : Thresholds) (number 
     best-loose = record {
       loose = record { up = up; near = λ u v a b e. (near u v a b e, near v u b a (hop-turned w u v e)) };
       low = λ u l st. subst (λ (x : ℤ). number (g u) ≤ℤ x) (num .nothing) (at-most (s .nothing) (g u) (best .low u l st));
+      size = λ u l st. num .size (g u) (best .extent u l st);
       highest = λ d q loose low u l st. along d q loose low 64 u (g u) l st (best .walk u l st);
     }
 

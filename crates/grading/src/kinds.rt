@@ -20,7 +20,7 @@ pub fn loose<S: Sheet>(sheet: &S, thresholds: Thresholds, grades: &mut [Whole], 
         (brought (now (grades .entry)) (now (ring .entry)) (now (values .entry)) (now (bytes .entry)))
         (brought (now (grades .exit)) (now (ring .exit)) (now (values .exit)) (now (bytes .exit))) r ⌝ }
 {
-    grade(sheet, thresholds, grades, ring, values, bytes)
+    grade::<S, Whole>(sheet, thresholds, grades, ring, values, bytes)
 }
 
 // The greatest pairs a, b that stand for a strict grading 128·a + b to the denominator 128.
@@ -29,7 +29,7 @@ pub fn strict<S: Sheet>(sheet: &S, thresholds: Thresholds, grades: &mut [Pair<Wh
         (brought (now (grades .entry)) (now (ring .entry)) (now (values .entry)) (now (bytes .entry)))
         (brought (now (grades .exit)) (now (ring .exit)) (now (values .exit)) (now (bytes .exit))) r ⌝ }
 {
-    grade(sheet, thresholds, grades, ring, values, bytes)
+    grade::<S, Pair<Whole, Unit>>(sheet, thresholds, grades, ring, values, bytes)
 }
 
 // The highest grading in which every mark leads up by at least 1 and every hop not at all.
@@ -38,5 +38,5 @@ pub fn unit<S: Sheet>(sheet: &S, grades: &mut [Unit], ring: &mut [u8], values: &
         (brought (now (grades .entry)) (now (ring .entry)) (now (values .entry)) (now (bytes .entry)))
         (brought (now (grades .exit)) (now (ring .exit)) (now (values .exit)) (now (bytes .exit))) r ⌝ }
 {
-    grade(sheet, Thresholds { t1: 1, t2: 0 }, grades, ring, values, bytes)
+    grade::<S, Unit>(sheet, Thresholds { t1: 1, t2: 0 }, grades, ring, values, bytes)
 }
