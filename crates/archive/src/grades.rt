@@ -29,12 +29,19 @@ fn refusal(heap: Global, decline: Decline, ring: &[u8]) -> Result<Answer, AllocE
     ensures { λ r. ⌜ made r (Refused decline (take (ring-length decline) (now (ring .entry)))) ⌝ }
 {
     match decline {
-        Decline::Forbidden { ring: k } => Ok(Answer::Forced(decline, Vec::from_slice(heap, &ring[0..k as usize])?)),
+        Decline::Forbidden { ring: k } => Ok(Answer::Forced(
+            decline,
+            Vec::from_slice(heap, &ring[0..k as usize])?,
+        )),
         _ => Ok(Answer::Declined(decline)),
     }
 }
 
-pub fn loose_answer<S: Sheet>(heap: Global, sheet: &S, thresholds: Thresholds) -> Result<Answer, AllocError>
+pub fn loose_answer<S: Sheet>(
+    heap: Global,
+    sheet: &S,
+    thresholds: Thresholds,
+) -> Result<Answer, AllocError>
     ensures { λ r. ⌜ made r (Loose-told (view-of S·Sheet (now (sheet .entry))) thresholds) ⌝ }
 {
     let nothing = Whole { value: 0 };
@@ -42,13 +49,24 @@ pub fn loose_answer<S: Sheet>(heap: Global, sheet: &S, thresholds: Thresholds) -
     let mut ring = [0; 64];
     let mut values = [nothing; 4160];
     let mut bytes = [0; 4160];
-    match loose(sheet, thresholds, &mut grades, &mut ring, &mut values, &mut bytes) {
+    match loose(
+        sheet,
+        thresholds,
+        &mut grades,
+        &mut ring,
+        &mut values,
+        &mut bytes,
+    ) {
         Ok(()) => Ok(Answer::Wholes(list_grades(heap, sheet, &grades)?)),
         Err(decline) => refusal(heap, decline, &ring),
     }
 }
 
-pub fn strict_answer<S: Sheet>(heap: Global, sheet: &S, thresholds: Thresholds) -> Result<Answer, AllocError>
+pub fn strict_answer<S: Sheet>(
+    heap: Global,
+    sheet: &S,
+    thresholds: Thresholds,
+) -> Result<Answer, AllocError>
     ensures { λ r. ⌜ made r (Strict-told (view-of S·Sheet (now (sheet .entry))) thresholds) ⌝ }
 {
     let nothing = Pair {
@@ -59,7 +77,14 @@ pub fn strict_answer<S: Sheet>(heap: Global, sheet: &S, thresholds: Thresholds) 
     let mut ring = [0; 64];
     let mut values = [nothing; 4160];
     let mut bytes = [0; 4160];
-    match strict(sheet, thresholds, &mut grades, &mut ring, &mut values, &mut bytes) {
+    match strict(
+        sheet,
+        thresholds,
+        &mut grades,
+        &mut ring,
+        &mut values,
+        &mut bytes,
+    ) {
         Ok(()) => Ok(Answer::Pairs(list_grades(heap, sheet, &grades)?)),
         Err(decline) => refusal(heap, decline, &ring),
     }

@@ -13,7 +13,12 @@ use sheet::meaning::Sheet;
 use std::alloc::AllocError;
 use std::alloc::Global;
 
-fn push_if<V: Scale>(list: &mut Vec<Graded<V>>, stands: bool, record: u8, grade: V) -> Result<(), AllocError>
+fn push_if<V: Scale>(
+    list: &mut Vec<Graded<V>>,
+    stands: bool,
+    record: u8,
+    grade: V,
+) -> Result<(), AllocError>
     ensures { λ r. ⌜ made r (λ _. vec-items (now (list .exit)) ≡ vec-items (now (list .entry)) ++ entry stands «record» grade) ⌝ }
 {
     if stands {
@@ -22,7 +27,11 @@ fn push_if<V: Scale>(list: &mut Vec<Graded<V>>, stands: bool, record: u8, grade:
     Ok(())
 }
 
-pub fn list_grades<S: Sheet, V: Scale>(heap: Global, sheet: &S, grades: &[V]) -> Result<Vec<Graded<V>>, AllocError>
+pub fn list_grades<S: Sheet, V: Scale>(
+    heap: Global,
+    sheet: &S,
+    grades: &[V],
+) -> Result<Vec<Graded<V>>, AllocError>
     requires { ⌜ 64 ≤ length (now grades) ⌝ }
     ensures { λ r. ⌜ made r (λ v. vec-items v ≡ listed (view-of S·Sheet (now (sheet .entry))) (λ u. getD (now (grades .entry)) u (V·Scale .nothing)) 64) ⌝ }
 {

@@ -42,7 +42,11 @@ pub fn answer<S: Sheet>(heap: Global, sheet: &mut S, call: Call) -> Result<Answe
 }
 
 // All calls in their order: the sheet after them, and every answer.
-pub fn replay<S: Sheet + Drop>(heap: Global, mut sheet: S, calls: &[Call]) -> Result<(S, Vec<Answer>), AllocError>
+pub fn replay<S: Sheet + Drop>(
+    heap: Global,
+    mut sheet: S,
+    calls: &[Call],
+) -> Result<(S, Vec<Answer>), AllocError>
     ensures { λ r. ⌜ made r (λ p. Replayed S·Sheet sheet (now (calls .entry)) (p .0) (vec-items (p .1))) ⌝ }
 {
     let mut answers = Vec::new(heap);

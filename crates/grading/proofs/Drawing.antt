@@ -38,14 +38,14 @@ unmarked-hop w u v = rw (mark-by w u v, mark-by w v u, hop-by w u v) (go (two w 
     go false e = refl
 
 pub drawn : (w : View) (standing : ℕ) (rows hops : List ℕ) → Collected (w .stands) 64 standing → Mark-rows w 64 rows
-  → ((u : ℕ) → u < 64 → Collected (unmarked-from standing rows u) 64 (getD hops u 0)) → Draws w (record { standing = standing; marks = rows; hops = hops })
+    → ((u : ℕ) → u < 64 → Collected (unmarked-from standing rows u) 64 (getD hops u 0)) → Draws w (record { standing = standing; marks = rows; hops = hops })
 drawn w standing rows hops stands marked unmarked = record {
   stands = λ u l. collected-at (w .stands) standing u stands l;
   marks = mark-at;
   hops = λ u v a b.
-    collected-at (unmarked-from standing rows u) (getD hops u 0) v (unmarked u a) b
-    ∙ ap₂ (λ (p q : Bool). p && q) (both-two w standing u v stands a b) (ap₂ (λ (p q : Bool). not p && not q) (mark-at u v a b) (mark-at v u b a))
-    ∙ unmarked-hop w u v;
+      collected-at (unmarked-from standing rows u) (getD hops u 0) v (unmarked u a) b
+      ∙ ap₂ (λ (p q : Bool). p && q) (both-two w standing u v stands a b) (ap₂ (λ (p q : Bool). not p && not q) (mark-at u v a b) (mark-at v u b a))
+      ∙ unmarked-hop w u v;
 }
   where
     mark-at : (u v : ℕ) → u < 64 → v < 64 → has (getD rows u 0) v ≡ is-mark w u v

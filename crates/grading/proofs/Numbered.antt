@@ -3,7 +3,7 @@ use mathlib.Core.Path.{_≡_, refl, sym, ap, ap₂, _∙_, subst, subst₂}
 use mathlib.Core.Bool.{Bool, true, false, cond, _||_}
 use mathlib.Core.Logic.{⊎-elim}
 use mathlib.Core.List.{List}
-use Prim.Native.Nat.{ℕ, zero, suc, _+_, _*_, _≤_, _<_}
+use Prim.Native.Nat.{ℕ, zero, suc, _+_, _*_, max, _≤_, _<_}
 use native.Mathlib.Omega.{arith}
 use native.Mathlib.Nat.{suc-mul, zero-mul}
 use borrow.Author.Differences.{ints}
@@ -31,7 +31,6 @@ pub record Numbered {V : Type 0} (s : Ghosts V) (t : Thresholds) (number : V →
   pub less : (a b : V) → s .less a b ≡ ltZ (number a) (number b)
   pub mark : number (s .mark t) ≡ negℤ (pos (t .t1))
   pub hop : number (s .hop t) ≡ pos (t .t2)
-  pub size : (a : V) → s .extent a 64 → natAbs (number a) ≤ 64000000
 
 -- d times a sum
 spread : (d : ℕ) (a b : ℤ) → pos d *ℤ (a +ℤ b) ≡ (pos d *ℤ a) +ℤ (pos d *ℤ b)
@@ -72,6 +71,19 @@ module _ {V : Type 0} (s : Ghosts V) (laws : Lawful s) (t : Thresholds) (number 
       not-less : (x y : ℤ) → ltZ x y ≡ false → y ≤ℤ x
       not-less x y h = omega (arith, ints)
 
+  -- each step of a walk adds at most the greater threshold to its size
+  walk-size : (k u : ℕ) (z : V) → Walk s (view-steps s w t) k u z → natAbs (number z) ≤ k * max (t .t1) (t .t2)
+  walk-size k u z stop = rw (num .nothing) (omega arith)
+  walk-size (suc k) u z (go {z = y} v l is walk) =
+      rw (num .plus (value s w t u v) y) (one (number (value s w t u v)) (number y) (step-size (is-mark w u v) refl) (walk-size k v y walk))
+    where
+      step-size : (b : Bool) → is-mark w u v ≡ b → natAbs (number (value s w t u v)) ≤ max (t .t1) (t .t2)
+      step-size true e = rw (number-mark u v e) (omega (arith, ints))
+      step-size false e = rw (number-hop u v e) (omega (arith, ints))
+
+      one : (x y : ℤ) → natAbs x ≤ max (t .t1) (t .t2) → natAbs y ≤ k * max (t .t1) (t .t2) → natAbs (x +ℤ y) ≤ suc k * max (t .t1) (t .t2)
+      one x y a b = omega (arith, ints, suc-mul k (max (t .t1) (t .t2)))
+
   module _ (g : ℕ → V) (best : Best s w t g) where
     step-bound : (u v : ℕ) → u < 64 → v < 64 → is-step w u v ≡ true → number (g u) ≤ℤ (number (value s w t u v) +ℤ number (g v))
     step-bound u v a b is = subst (λ (z : ℤ). number (g u) ≤ℤ z) (num .plus (value s w t u v) (g v)) (at-most (s .plus (value s w t u v) (g v)) (g u) (best .meets u v a b is))
@@ -95,10 +107,10 @@ module _ {V : Type 0} (s : Ghosts V) (laws : Lawful s) (t : Thresholds) (number 
         let c : ℤ = number (value s w t u v) in
         let far : q v ≤ℤ (pos d *ℤ number y) = along d q loose low k v y l (step-head w u v is) walk in
         subst (λ (x : ℤ). q u ≤ℤ x) (sym (ap (λ (x : ℤ). pos d *ℤ x) (num .plus (value s w t u v) y) ∙ spread d (number (value s w t u v)) (number y)))
-          (⊎-elim
-            (λ (m : is-mark w u v ≡ true). by-mark (q u) (q v) (pos d *ℤ c) (pos d *ℤ number y) (ap (λ (x : ℤ). pos d *ℤ x) (number-mark u v m) ∙ times-neg d (t .t1)) (loose .up u v h l m) far)
-            (λ (m : is-hop w u v ≡ true). by-hop (q u) (q v) (pos d *ℤ c) (pos d *ℤ number y) (ap (λ (x : ℤ). pos d *ℤ x) (number-hop u v (hop-unmarked (step w u v) m)) ∙ times-pos d (t .t2)) (loose .near u v h l m .0) far)
-            (or-cases (is-mark w u v) (is-hop w u v) is))
+        (⊎-elim
+        (λ (m : is-mark w u v ≡ true). by-mark (q u) (q v) (pos d *ℤ c) (pos d *ℤ number y) (ap (λ (x : ℤ). pos d *ℤ x) (number-mark u v m) ∙ times-neg d (t .t1)) (loose .up u v h l m) far)
+        (λ (m : is-hop w u v ≡ true). by-hop (q u) (q v) (pos d *ℤ c) (pos d *ℤ number y) (ap (λ (x : ℤ). pos d *ℤ x) (number-hop u v (hop-unmarked (step w u v) m)) ∙ times-pos d (t .t2)) (loose .near u v h l m .0) far)
+        (or-cases (is-mark w u v) (is-hop w u v) is))
       where
         by-mark : (x y c z : ℤ) → c ≡ negℤ (pos (d * t .t1)) → (x +ℤ pos (d * t .t1 + 0)) ≤ℤ y → y ≤ℤ z → x ≤ℤ (c +ℤ z)
         by-mark x y c z e f h = omega (arith, ints)
@@ -110,7 +122,7 @@ module _ {V : Type 0} (s : Ghosts V) (laws : Lawful s) (t : Thresholds) (number 
     best-loose = record {
       loose = record { up = up; near = λ u v a b e. (near u v a b e, near v u b a (hop-turned w u v e)) };
       low = λ u l st. subst (λ (x : ℤ). number (g u) ≤ℤ x) (num .nothing) (at-most (s .nothing) (g u) (best .low u l st));
-      size = λ u l st. num .size (g u) (best .extent u l st);
+      size = λ u l st. walk-size 64 u (g u) (best .walk u l st);
       highest = λ d q loose low u l st. along d q loose low 64 u (g u) l st (best .walk u l st);
     }
 
@@ -134,7 +146,7 @@ module _ {V : Type 0} (s : Ghosts V) (laws : Lawful s) (t : Thresholds) (number 
   pub forbids-loosely : (xs : List ℕ) → Forbids s w t xs → Forbids-loosely w t xs
   forbids-loosely xs f =
       let total : number (sum-round s w t xs) ≡ number (times s (marks-of w xs) (s .mark t)) +ℤ number (times s (hops-of w xs) (s .hop t)) =
-            ap number (round-counts s laws w t xs (f .ring .cycle)) ∙ num .plus (times s (marks-of w xs) (s .mark t)) (times s (hops-of w xs) (s .hop t)) in
+      ap number (round-counts s laws w t xs (f .ring .cycle)) ∙ num .plus (times s (marks-of w xs) (s .mark t)) (times s (hops-of w xs) (s .hop t)) in
       let below : ltZ (number (sum-round s w t xs)) (number (s .nothing)) ≡ true = sym (num .less (sum-round s w t xs) (s .nothing)) ∙ f .below in
       let forbids : forbids-loose w t xs = less (number (sum-round s w t xs)) (number (s .nothing)) (number (times s (marks-of w xs) (s .mark t))) (number (times s (hops-of w xs) (s .hop t))) (marks-of w xs * t .t1) (hops-of w xs * t .t2) total (num .nothing) (marks-number (marks-of w xs)) (hops-number (hops-of w xs)) below in
       record { ring = f .ring; forbids = forbids; none = ring-forbids-loose w t xs (f .ring .cycle) forbids }

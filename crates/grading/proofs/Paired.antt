@@ -88,8 +88,8 @@ below-in a b E X Y ea eb one le = ⊎-elim
 
 -- ---- a pair as one number
 mark-step : (b : Bool) (a c p q : ℤ) (t : Thresholds) → b ≡ true → negℤ (pos 64) ≤ℤ q → p ≤ℤ pos 0
-  → lex ((cond b (mark t) (hop t) .first .value) +ℤ c) a ((cond b (mark t) (hop t) .second .value) +ℤ q) p ≡ false
-  → (((pos 128 *ℤ a) +ℤ p) +ℤ pos (128 * t .t1 + 1)) ≤ℤ ((pos 128 *ℤ c) +ℤ q)
+    → lex ((cond b (mark t) (hop t) .first .value) +ℤ c) a ((cond b (mark t) (hop t) .second .value) +ℤ q) p ≡ false
+    → (((pos 128 *ℤ a) +ℤ p) +ℤ pos (128 * t .t1 + 1)) ≤ℤ ((pos 128 *ℤ c) +ℤ q)
 mark-step true a c p q t e lo hi h = go (lex-not (negℤ (pos (t .t1)) +ℤ c) a (negsuc 0 +ℤ q) p h)
   where
     go : (ltZ a (negℤ (pos (t .t1)) +ℤ c) ≡ true) ⊎ ((negℤ (pos (t .t1)) +ℤ c ≡ a) × (ltZ (negsuc 0 +ℤ q) p ≡ false)) → (((pos 128 *ℤ a) +ℤ p) +ℤ pos (128 * t .t1 + 1)) ≤ℤ ((pos 128 *ℤ c) +ℤ q)
@@ -98,8 +98,8 @@ mark-step true a c p q t e lo hi h = go (lex-not (negℤ (pos (t .t1)) +ℤ c) a
 mark-step false a c p q t e lo hi h = absurd (clash false e refl)
 
 hop-step : (b : Bool) (a c p q : ℤ) (t : Thresholds) → b ≡ false → negℤ (pos 64) ≤ℤ q → p ≤ℤ pos 0
-  → lex ((cond b (mark t) (hop t) .first .value) +ℤ c) a ((cond b (mark t) (hop t) .second .value) +ℤ q) p ≡ false
-  → ((pos 128 *ℤ a) +ℤ p) ≤ℤ (((pos 128 *ℤ c) +ℤ q) +ℤ pos (128 * t .t2))
+    → lex ((cond b (mark t) (hop t) .first .value) +ℤ c) a ((cond b (mark t) (hop t) .second .value) +ℤ q) p ≡ false
+    → ((pos 128 *ℤ a) +ℤ p) ≤ℤ (((pos 128 *ℤ c) +ℤ q) +ℤ pos (128 * t .t2))
 hop-step true a c p q t e lo hi h = absurd (clash true refl e)
 hop-step false a c p q t e lo hi h = go (lex-not (pos (t .t2) +ℤ c) a (pos 0 +ℤ q) p h)
   where
@@ -168,8 +168,8 @@ forbids-strictly w t xs f =
     let em = pair-marks (marks-of w xs) t in
     let eh = pair-hops (hops-of w xs) t in
     let one : sum-round pairs w t xs .first .value ≡ pos (hops-of w xs * t .t2) -ℤ pos (marks-of w xs * t .t1) =
-          ap (λ (z : Pair Whole Units). z .first .value) counts ∙ ap₂ (λ (a b : ℤ). a +ℤ b) (em .0) (eh .0) ∙ omega (arith, ints) in
+    ap (λ (z : Pair Whole Units). z .first .value) counts ∙ ap₂ (λ (a b : ℤ). a +ℤ b) (em .0) (eh .0) ∙ omega (arith, ints) in
     let two : sum-round pairs w t xs .second .value ≡ negℤ (pos (marks-of w xs)) =
-          ap (λ (z : Pair Whole Units). z .second .value) counts ∙ ap₂ (λ (a b : ℤ). a +ℤ b) (em .1) (eh .1) ∙ omega (arith, ints) in
+    ap (λ (z : Pair Whole Units). z .second .value) counts ∙ ap₂ (λ (a b : ℤ). a +ℤ b) (em .1) (eh .1) ∙ omega (arith, ints) in
     let forbids : forbids-strict w t xs = below-out (sum-round pairs w t xs .first .value) (sum-round pairs w t xs .second .value) (marks-of w xs) (marks-of w xs * t .t1) (hops-of w xs * t .t2) one two (λ z. ap (λ (n : ℕ). n * t .t1) z ∙ zero-mul (t .t1)) (f .below) in
     record { ring = f .ring; forbids = forbids; none = ring-forbids-strict w t xs (f .ring .cycle) forbids }

@@ -34,9 +34,9 @@ module _ {V : Type 0} (s : Ghosts V) (steps : Steps V) (prev : ℕ → V) (u : �
   relaxed-more v before after r t = record {
     least = t .least ∙ ap (pick s (steps .has u v) (s .plus (steps .cost u v) (prev v))) (r .least) ∙ sym (reach-more s steps prev u v);
     next = t .next
-      ∙ ap (λ (z : V). cond (steps .has u v && s .less (s .plus (steps .cost u v) (prev v)) z) v (before .next)) (r .least)
-      ∙ ap (λ (n : ℕ). cond (steps .has u v && s .less (s .plus (steps .cost u v) (prev v)) (reach s steps prev u v)) v n) (r .next)
-      ∙ sym (chosen-more s steps prev u v);
+        ∙ ap (λ (z : V). cond (steps .has u v && s .less (s .plus (steps .cost u v) (prev v)) z) v (before .next)) (r .least)
+        ∙ ap (λ (n : ℕ). cond (steps .has u v && s .less (s .plus (steps .cost u v) (prev v)) (reach s steps prev u v)) v n) (r .next)
+        ∙ sym (chosen-more s steps prev u v);
   }
 
 -- ---- one round
@@ -44,7 +44,7 @@ fill-more : {X : Type 0} (f : ℕ → X) (xs : List X) (i : ℕ) (d x : X) → i
 fill-more {X} f xs i d x h e below k l = subst (λ (z : X). getD (set xs i z) k d ≡ f k) (sym e) (fill-by-more f xs i d h below k l)
 
 pub rounded-more : {V : Type 0} (s : Ghosts V) (steps : Steps V) (prev : ℕ → V) (u : ℕ) (to : List V) (next : List ℕ) (r : Reached V) → u < length to → u < length next
-  → Rounded s steps prev u to next → Relaxed s steps prev u 64 r → Rounded s steps prev (u + 1) (set to u (r .least)) (set next u (r .next))
+    → Rounded s steps prev u to next → Relaxed s steps prev u 64 r → Rounded s steps prev (u + 1) (set to u (r .least)) (set next u (r .next))
 rounded-more s steps prev u to next r a b done here = record {
   least = fill-more (λ v. reach s steps prev v 64) to u (s .nothing) (r .least) a (here .least) (done .least);
   nexts = fill-more (λ v. chosen s steps prev v 64) next u 0 (r .next) b (here .next) (done .nexts);
@@ -112,15 +112,15 @@ module _ {V : Type 0} (s : Ghosts V) (laws : Lawful s) (p : Problem V) where
         under u = rw (level-none s steps 64 u, zero-add k) at (level-down s laws steps 64 0 k u)
 
     pub running-more : (u : ℕ) (kept : List V) → kept ≡ new → k < 64 → length ns ≡ 4096 → length part ≡ 64 → Fall s old new u
-      → Running s steps (k + 1) kept (putMid (k * 64) (k * 64 + 64 - k * 64) ns part) u
+        → Running s steps (k + 1) kept (putMid (k * 64) (k * 64 + 64 - k * 64) ns part) u
     running-more u kept e hk ln lp fall = record {
       layer = λ v l. ap (λ (xs : List V). at s xs v) e ∙ new-layer v l ∙ ap (λ (n : ℕ). level s steps 64 n v) (sym (add-one k));
       nexts = below-more (Next-row s steps (putMid (k * 64) (k * 64 + 64 - k * 64) ns part)) k
-        (λ j l v lv. mid-before (k * 64) (k * 64 + 64 - k * 64) (j * 64 + v) ns part (omega arith) (omega arith) ∙ run .nexts j l v lv)
-        (λ v lv. mid-inside (k * 64) (k * 64 + 64 - k * 64) v ns part (omega arith) (omega arith) ∙ new-nexts v lv);
+          (λ j l v lv. mid-before (k * 64) (k * 64 + 64 - k * 64) (j * 64 + v) ns part (omega arith) (omega arith) ∙ run .nexts j l v lv)
+          (λ v lv. mid-inside (k * 64) (k * 64 + 64 - k * 64) v ns part (omega arith) (omega arith) ∙ new-nexts v lv);
       fell = λ j f.
-        let is : k ≡ j = omega arith in
-        (fall .0, subst (λ (i : ℕ). Falls s steps i u) is (rw (new-layer u (fall .0), run .layer u (fall .0)) at (fall .1)));
+          let is : k ≡ j = omega arith in
+          (fall .0, subst (λ (i : ℕ). Falls s steps i u) is (rw (new-layer u (fall .0), run .layer u (fall .0)) at (fall .1)));
     }
 
   pub unsettled-made : (k last : ℕ) (old : List V) (ns : List ℕ) → k ≡ 64 → Running s steps k old ns last → Unsettled s steps ns last

@@ -80,9 +80,9 @@ module _ {V : Type 0} (s : Ghosts V) (laws : Lawful s) (w : View) (t : Threshold
 
     pub others-kept : (u : ℕ) → (u < 64 → w .stands u ≡ false) → at s after u ≡ at s before u
     others-kept u f = copied .outside u (⊎-elim
-      (λ (l : u < 64). spells .draws .stands u l ∙ f l)
-      (λ (l : 64 ≤ u). has-beyond (p .graph .standing) u (omega arith))
-      (cases-lt u 64))
+        (λ (l : u < 64). spells .draws .stands u l ∙ f l)
+        (λ (l : 64 ≤ u). has-beyond (p .graph .standing) u (omega arith))
+        (cases-lt u 64))
 
   pub forbids-shown : (ys xs : List ℕ) (low high : ℕ) → Loop s (problem-steps p) ys low high → Written ys low high xs → 64 ≤ length xs → Forbids s w t (take (high - low) xs)
   forbids-shown ys xs low high loop written room = forbids-made s laws (problem-steps p) w t same-steps ys xs low high loop written room

@@ -2,7 +2,7 @@
 use mathlib.Core.Path.{_≡_}
 use mathlib.Core.Bool.{Bool, true}
 use mathlib.Core.List.{List}
-use Prim.Native.Nat.{ℕ, _≤_, _<_}
+use Prim.Native.Nat.{ℕ, _*_, max, _≤_, _<_}
 use lib.IntN.{ℤ, pos, natAbs, _+ℤ_, _*ℤ_}
 use lib.Signed.{_≤ℤ_}
 use Rattle.model.specs.declared.thresholds.Thresholds.{Thresholds}
@@ -19,12 +19,12 @@ use Rattle.paths.specs.Bests.{Best}
 abbrev pub None-above-zero : View → (ℕ → ℤ) → Type 0
 None-above-zero w z = (u : ℕ) → u < 64 → w .stands u ≡ true → z u ≤ℤ pos 0
 
--- a loose grading to the denominator 1 without a grade above 0 or below -64,000,000; no loose grading q without a grade above 0,
--- to any denominator d, is higher: q u / d is at most z u at every standing record
+-- a loose grading to the denominator 1 without a grade above 0, each of at most 64 steps of t1 or t2 in size; no loose grading q
+-- without a grade above 0, to any denominator d, is higher: q u / d is at most z u at every standing record
 pub record Best-loose (w : View) (t : Thresholds) (z : ℕ → ℤ) : Type 0 where
   pub loose : Loose w t 1 z
   pub low : None-above-zero w z
-  pub size : (u : ℕ) → u < 64 → w .stands u ≡ true → natAbs (z u) ≤ 64000000
+  pub size : (u : ℕ) → u < 64 → w .stands u ≡ true → natAbs (z u) ≤ 64 * max (t .t1) (t .t2)
   pub highest : (d : ℕ) (q : ℕ → ℤ) → Loose w t d q → None-above-zero w q → (u : ℕ) → u < 64 → w .stands u ≡ true → q u ≤ℤ (pos d *ℤ z u)
 
 -- a ring that forbids every loose grading, to any denominator

@@ -60,8 +60,8 @@ Solved w asked none forbids before after (Err d) = (number-of d ≡ 13) × Shown
 abbrev pub Outcome : {V : Type 0} → View → Thresholds → ((ℕ → V) → Type 0) → V → (List ℕ → Type 0) → Memory V → Memory V → Result (Unit {0}) Decline → Type 0
 Outcome w t asked none forbids before after r =
     When (suffices before)
-      (When (within-limits t) (Solved w asked none forbids before after r) (Declined 11 before after r))
-      (Declined 1 before after r)
+    (When (within-limits t) (Solved w asked none forbids before after r) (Declined 11 before after r))
+    (Declined 1 before after r)
 
 -- grading on a scale: the best values, or a ring whose sum is below nothing
 abbrev pub Grades : {V : Type 0} → Ghosts V → View → Thresholds → Memory V → Memory V → Result (Unit {0}) Decline → Type 0

@@ -50,7 +50,13 @@ fn copy_values<V: Scale>(set: u64, from: &[V], to: &mut [V])
 }
 
 // The values of the problem's view at its standing records, or the ring that forbids them.
-fn solve<V: Scale>(problem: &Problem<V>, grades: &mut [V], ring: &mut [u8], values: &mut [V], bytes: &mut [u8]) -> Result<(), Decline>
+fn solve<V: Scale>(
+    problem: &Problem<V>,
+    grades: &mut [V],
+    ring: &mut [u8],
+    values: &mut [V],
+    bytes: &mut [u8],
+) -> Result<(), Decline>
     requires { ⌜ (enough (length (now grades)) (length (now ring)) (length (now values)) (length (now bytes)) ≡ true) × Costs V·Scale (now problem) ⌝ }
     ensures { λ r. ⌜ ((w : View) (t : Thresholds) → Spells V·Scale w t (now (problem .entry)) → Solved w (Best V·Scale w t) (V·Scale .nothing) (Forbids V·Scale w t)
         (brought (now (grades .entry)) (now (ring .entry)) (now (values .entry)) (now (bytes .entry)))
@@ -76,7 +82,14 @@ fn solve<V: Scale>(problem: &Problem<V>, grades: &mut [V], ring: &mut [u8], valu
 }
 
 // The greatest grades of what stands on the sheet, or the ring that forbids them: declines by 1, 11, 13.
-pub fn grade<S: Sheet, V: Scale>(sheet: &S, thresholds: Thresholds, grades: &mut [V], ring: &mut [u8], values: &mut [V], bytes: &mut [u8]) -> Result<(), Decline>
+pub fn grade<S: Sheet, V: Scale>(
+    sheet: &S,
+    thresholds: Thresholds,
+    grades: &mut [V],
+    ring: &mut [u8],
+    values: &mut [V],
+    bytes: &mut [u8],
+) -> Result<(), Decline>
     ensures { λ r. ⌜ Grades V·Scale (view-of S·Sheet (now (sheet .entry))) thresholds
         (brought (now (grades .entry)) (now (ring .entry)) (now (values .entry)) (now (bytes .entry)))
         (brought (now (grades .exit)) (now (ring .exit)) (now (values .exit)) (now (bytes .exit))) r ⌝ }

@@ -79,7 +79,11 @@ fn hop_row(standing: u64, marks: &[u64; 64], u: usize) -> u64
 {
     let mut row = 0;
     for v in 0..64 {
-        row = collect_bit(row, v, both(standing, u, v) & (!has_bit(marks[u], v) & !has_bit(marks[v], u)));
+        row = collect_bit(
+            row,
+            v,
+            both(standing, u, v) & (!has_bit(marks[u], v) & !has_bit(marks[v], u)),
+        );
     }
     row
 }
@@ -94,5 +98,9 @@ pub fn read<S: Sheet>(sheet: &S) -> Graph
     for u in 0..64 {
         hops[u] = hop_row(standing, &marks, u);
     }
-    Graph { standing, marks, hops }
+    Graph {
+        standing,
+        marks,
+        hops,
+    }
 }

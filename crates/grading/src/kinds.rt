@@ -15,7 +15,14 @@ use scale::whole::WholeScale;
 use sheet::meaning::Sheet;
 
 // The highest loose grading to the denominator 1 without a grade above 0.
-pub fn loose<S: Sheet>(sheet: &S, thresholds: Thresholds, grades: &mut [Whole], ring: &mut [u8], values: &mut [Whole], bytes: &mut [u8]) -> Result<(), Decline>
+pub fn loose<S: Sheet>(
+    sheet: &S,
+    thresholds: Thresholds,
+    grades: &mut [Whole],
+    ring: &mut [u8],
+    values: &mut [Whole],
+    bytes: &mut [u8],
+) -> Result<(), Decline>
     ensures { λ r. ⌜ Loose-grades (view-of S·Sheet (now (sheet .entry))) thresholds
         (brought (now (grades .entry)) (now (ring .entry)) (now (values .entry)) (now (bytes .entry)))
         (brought (now (grades .exit)) (now (ring .exit)) (now (values .exit)) (now (bytes .exit))) r ⌝ }
@@ -24,7 +31,14 @@ pub fn loose<S: Sheet>(sheet: &S, thresholds: Thresholds, grades: &mut [Whole], 
 }
 
 // The greatest pairs a, b that stand for a strict grading 128·a + b to the denominator 128.
-pub fn strict<S: Sheet>(sheet: &S, thresholds: Thresholds, grades: &mut [Pair<Whole, Unit>], ring: &mut [u8], values: &mut [Pair<Whole, Unit>], bytes: &mut [u8]) -> Result<(), Decline>
+pub fn strict<S: Sheet>(
+    sheet: &S,
+    thresholds: Thresholds,
+    grades: &mut [Pair<Whole, Unit>],
+    ring: &mut [u8],
+    values: &mut [Pair<Whole, Unit>],
+    bytes: &mut [u8],
+) -> Result<(), Decline>
     ensures { λ r. ⌜ Strict-grades (view-of S·Sheet (now (sheet .entry))) thresholds
         (brought (now (grades .entry)) (now (ring .entry)) (now (values .entry)) (now (bytes .entry)))
         (brought (now (grades .exit)) (now (ring .exit)) (now (values .exit)) (now (bytes .exit))) r ⌝ }
@@ -33,10 +47,23 @@ pub fn strict<S: Sheet>(sheet: &S, thresholds: Thresholds, grades: &mut [Pair<Wh
 }
 
 // The highest grading in which every mark leads up by at least 1 and every hop not at all.
-pub fn unit<S: Sheet>(sheet: &S, grades: &mut [Unit], ring: &mut [u8], values: &mut [Unit], bytes: &mut [u8]) -> Result<(), Decline>
+pub fn unit<S: Sheet>(
+    sheet: &S,
+    grades: &mut [Unit],
+    ring: &mut [u8],
+    values: &mut [Unit],
+    bytes: &mut [u8],
+) -> Result<(), Decline>
     ensures { λ r. ⌜ Unit-grades (view-of S·Sheet (now (sheet .entry)))
         (brought (now (grades .entry)) (now (ring .entry)) (now (values .entry)) (now (bytes .entry)))
         (brought (now (grades .exit)) (now (ring .exit)) (now (values .exit)) (now (bytes .exit))) r ⌝ }
 {
-    grade::<S, Unit>(sheet, Thresholds { t1: 1, t2: 0 }, grades, ring, values, bytes)
+    grade::<S, Unit>(
+        sheet,
+        Thresholds { t1: 1, t2: 0 },
+        grades,
+        ring,
+        values,
+        bytes,
+    )
 }

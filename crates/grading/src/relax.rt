@@ -36,19 +36,32 @@ fn step_to<V: Scale>(problem: &Problem<V>, from: &[V], u: usize, v: usize) -> V
     requires { ⌜ (u < 64) × (v < 64) × Ready V·Scale (now problem) (now from) ⌝ }
     ensures { λ r. ⌜ r ≡ V·Scale .plus (problem-steps (now (problem .entry)) .cost u v) (at V·Scale (now (from .entry)) v) ⌝ }
 {
-    let cost = if has_bit(problem.graph.marks[u], v) { problem.mark } else { problem.hop };
+    let cost = if has_bit(problem.graph.marks[u], v) {
+        problem.mark
+    } else {
+        problem.hop
+    };
     cost.sum(from[v])
 }
 
 // Goes on from `best` by the step from u to v, where there is one.
-fn try_step<V: Scale>(problem: &Problem<V>, from: &[V], u: usize, v: usize, best: Reached<V>) -> Reached<V>
+fn try_step<V: Scale>(
+    problem: &Problem<V>,
+    from: &[V],
+    u: usize,
+    v: usize,
+    best: Reached<V>,
+) -> Reached<V>
     requires { ⌜ (u < 64) × (v < 64) × Ready V·Scale (now problem) (now from) ⌝ }
     ensures { λ r. ⌜ Tried V·Scale (problem-steps (now (problem .entry))) (at V·Scale (now (from .entry))) u v best r ⌝ }
 {
     if has_step(problem, u, v) {
         let tried = step_to(problem, from, u, v);
         if tried.less(&best.least) {
-            return Reached { least: tried, next: v as u8 };
+            return Reached {
+                least: tried,
+                next: v as u8,
+            };
         }
     }
     best
@@ -59,7 +72,10 @@ fn relax_record<V: Scale>(problem: &Problem<V>, from: &[V], u: usize) -> Reached
     requires { ⌜ (u < 64) × Ready V·Scale (now problem) (now from) ⌝ }
     ensures { λ r. ⌜ Relaxed V·Scale (problem-steps (now (problem .entry))) (at V·Scale (now (from .entry))) u 64 r ⌝ }
 {
-    let mut best = Reached { least: from[u], next: 64 };
+    let mut best = Reached {
+        least: from[u],
+        next: 64,
+    };
     for v in 0..64 {
         best = try_step(problem, from, u, v, best);
     }
@@ -101,7 +117,12 @@ fn first_fall<V: Scale>(old: &[V], new: &[V]) -> Option<usize>
 
 // Relaxes until a round changes nothing, at most 64 times. None: `old` meets every step.
 // Some(u): the 64th round is still below the one before at u.
-pub fn relax<V: Scale>(problem: &Problem<V>, old: &mut [V], new: &mut [V], next: &mut [u8]) -> Option<usize>
+pub fn relax<V: Scale>(
+    problem: &Problem<V>,
+    old: &mut [V],
+    new: &mut [V],
+    next: &mut [u8],
+) -> Option<usize>
     requires { ⌜ (length (now old) ≡ 64) × (length (now new) ≡ 64) × (length (now next) ≡ 4096) × Costs V·Scale (now problem) ⌝ }
     ensures { λ r. ⌜ BySome r (Settled V·Scale (problem-steps (now (problem .entry))) (at V·Scale (now (old .exit)))) (λ u. Unsettled V·Scale (problem-steps (now (problem .entry))) (now (next .exit)) u) ⌝ }
 {

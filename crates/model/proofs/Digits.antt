@@ -61,12 +61,12 @@ has-set n u h = fun-ext (λ x. go x (cases-eq x u))
     go : (x : ℕ) → (x ≡ u) ⊎ (x ≡ u → ⊥) → has (bitOr n (2 ^ u)) x ≡ put (has n) u true x
     go x (inl e) =
         let d : digit (bitOr n (2 ^ u)) x ≡ 1
-            = digit-or n (2 ^ u) x ∙ ap (λ (t : ℕ). bitOr (digit n x) t) (ap (digit (2 ^ u)) e ∙ digit-same u) ∙ or-one (digit n x) (digit-lt n x) in
+        = digit-or n (2 ^ u) x ∙ ap (λ (t : ℕ). bitOr (digit n x) t) (ap (digit (2 ^ u)) e ∙ digit-same u) ∙ or-one (digit n x) (digit-lt n x) in
         let l : x < 64 = omega arith in
         simp (lt-ltb x 64 l, d, eq-eqb x u e)
     go x (inr ne) =
         let d : digit (bitOr n (2 ^ u)) x ≡ digit n x
-            = digit-or n (2 ^ u) x ∙ ap (λ (t : ℕ). bitOr (digit n x) t) (digit-other u x ne) ∙ or-zero-r (digit n x) in
+        = digit-or n (2 ^ u) x ∙ ap (λ (t : ℕ). bitOr (digit n x) t) (digit-other u x ne) ∙ or-zero-r (digit n x) in
         simp (d, ne-eqb x u ne)
 
 pub has-bound : (n u : ℕ) → has n u ≡ true → u < 64
@@ -84,13 +84,13 @@ has-clear n u h = fun-ext (λ x. go x (cases-eq x u))
     go : (x : ℕ) → (x ≡ u) ⊎ (x ≡ u → ⊥) → has (bitXor n (2 ^ u)) x ≡ put (has n) u false x
     go x (inl e) =
         let d : digit (bitXor n (2 ^ u)) x ≡ 0
-            = digit-xor n (2 ^ u) x ∙ ap (λ (t : ℕ). bitXor (digit n x) t) (ap (digit (2 ^ u)) e ∙ digit-same u)
-              ∙ xor-one (digit n x) (ap (digit n) e ∙ has-digit n u h) in
+        = digit-xor n (2 ^ u) x ∙ ap (λ (t : ℕ). bitXor (digit n x) t) (ap (digit (2 ^ u)) e ∙ digit-same u)
+        ∙ xor-one (digit n x) (ap (digit n) e ∙ has-digit n u h) in
         let l : x < 64 = omega (arith, has-bound n u h) in
         simp (lt-ltb x 64 l, d, eq-eqb x u e)
     go x (inr ne) =
         let d : digit (bitXor n (2 ^ u)) x ≡ digit n x
-            = digit-xor n (2 ^ u) x ∙ ap (λ (t : ℕ). bitXor (digit n x) t) (digit-other u x ne) ∙ xor-zero-r (digit n x) in
+        = digit-xor n (2 ^ u) x ∙ ap (λ (t : ℕ). bitXor (digit n x) t) (digit-other u x ne) ∙ xor-zero-r (digit n x) in
         simp (d, ne-eqb x u ne)
 
 pub put-same : (f : ℕ → Bool) (u : ℕ) (b : Bool) → f u ≡ b → f ≡ put f u b

@@ -21,9 +21,9 @@ use Rattle.model.proofs.Rounds.{round-below, round-steps, round-end}
 
 -- one more step, by a mark or by a hop: what the sums so far bound, they bound again
 one-more : (s : Step) (a b c : ℤ) (E H X Y : ℕ) → (marks s || hops s) ≡ true
-  → (marks s ≡ true → (b +ℤ pos X) ≤ℤ c) → (hops s ≡ true → b ≤ℤ (c +ℤ pos Y))
-  → (a +ℤ pos (E * X)) ≤ℤ (b +ℤ pos (H * Y))
-  → (a +ℤ pos ((E + bit (marks s)) * X)) ≤ℤ (c +ℤ pos ((H + bit (hops s)) * Y))
+    → (marks s ≡ true → (b +ℤ pos X) ≤ℤ c) → (hops s ≡ true → b ≤ℤ (c +ℤ pos Y))
+    → (a +ℤ pos (E * X)) ≤ℤ (b +ℤ pos (H * Y))
+    → (a +ℤ pos ((E + bit (marks s)) * X)) ≤ℤ (c +ℤ pos ((H + bit (hops s)) * Y))
 one-more Mark a b c E H X Y e up near ih = rw (add-mul E 1 X, add-mul H 0 Y) (let u = up refl in omega (arith, ints))
 one-more Hop a b c E H X Y e up near ih = rw (add-mul E 0 X, add-mul H 1 Y) (let u = near refl in omega (arith, ints))
 one-more NoStep a b c E H X Y e up near ih = absurd (clash false e refl)
@@ -34,10 +34,10 @@ module _ (more : ℕ) (w : View) (xs : List ℕ) (t1 t2 d : ℕ) (g : ℕ → �
   bounded zero = rw (zero-mul (d * t1 + more), zero-mul (d * t2)) (omega (arith, ints))
   bounded (suc n) =
       one-more (step w (round xs n) (round xs (suc n))) (g (round xs 0)) (g (round xs n)) (g (round xs (suc n)))
-        (marks-in w (round xs) n) (hops-in w (round xs) n) (d * t1 + more) (d * t2) (round-steps w xs c n)
-        (graded .up (round xs n) (round xs (suc n)) (round-below w xs c n) (round-below w xs c (suc n)))
-        (λ e. graded .near (round xs n) (round xs (suc n)) (round-below w xs c n) (round-below w xs c (suc n)) e .0)
-        (bounded n)
+      (marks-in w (round xs) n) (hops-in w (round xs) n) (d * t1 + more) (d * t2) (round-steps w xs c n)
+      (graded .up (round xs n) (round xs (suc n)) (round-below w xs c n) (round-below w xs c (suc n)))
+      (λ e. graded .near (round xs n) (round xs (suc n)) (round-below w xs c n) (round-below w xs c (suc n)) e .0)
+      (bounded n)
 
   -- round the ring: what the marks lead up, the hops can lead down
   pub round-bounded : marks-of w xs * (d * t1 + more) ≤ hops-of w xs * (d * t2)

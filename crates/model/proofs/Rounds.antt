@@ -82,9 +82,9 @@ module _ (r : ℕ) (xs ys : List ℕ) (t : Turned r xs ys) (some : 0 < length xs
   turned-sum q =
       ap (λ (n : ℕ). sum-to (λ i. q (round ys i) (round ys (suc i))) n) (t .long)
       ∙ sum-same (λ i. q (round ys i) (round ys (suc i))) (λ i. q (round xs (i + r)) (round xs (suc (i + r)))) (length xs)
-          (λ i l. ap₂ q (turned-round i) (turned-round (suc i) ∙ ap (λ (p : ℕ). round xs p) (omega arith)))
+      (λ i l. ap₂ q (turned-round i) (turned-round (suc i) ∙ ap (λ (p : ℕ). round xs p) (omega arith)))
       ∙ sum-shift (λ i. q (round xs i) (round xs (suc i))) (length xs) r
-          (λ i. ap₂ q (round-over xs i) (ap (λ (p : ℕ). round xs p) (omega arith) ∙ round-over xs (suc i)))
+      (λ i. ap₂ q (round-over xs i) (ap (λ (p : ℕ). round xs p) (omega arith) ∙ round-over xs (suc i)))
 
 module _ (w : View) (r : ℕ) (xs ys : List ℕ) (t : Turned r xs ys) (c : Cycle w xs) where
   turned-apart : (i j : ℕ) → i < j → j < length xs → round xs (i + r) ≡ round xs (j + r) → ⊥

@@ -23,5 +23,9 @@ pub fn with_bit(set: u64, u: usize) -> u64
 pub fn without_bit(set: u64, u: usize) -> u64
     ensures { λ r. ⌜ has r ≡ put (has set) u false ⌝ }
 {
-    if has_bit(set, u) { set ^ (1u64 << u) } else { set }
+    if has_bit(set, u) {
+        set ^ (1u64 << u)
+    } else {
+        set
+    }
 }

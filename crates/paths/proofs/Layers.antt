@@ -34,20 +34,20 @@ module _ {V : Type 0} (s : Ghosts V) (laws : Lawful s) where
   -- ---- one choice
   pick-at-most : (ok : Bool) (cand acc : V) → less acc (pick s ok cand acc) ≡ false
   pick-at-most true cand acc = by-bool (less cand acc)
-    (λ e. ap (λ (t : Bool). less acc (cond t cand acc)) e ∙ asym s laws cand acc e)
-    (λ e. ap (λ (t : Bool). less acc (cond t cand acc)) e ∙ laws .irrefl acc)
+      (λ e. ap (λ (t : Bool). less acc (cond t cand acc)) e ∙ asym s laws cand acc e)
+      (λ e. ap (λ (t : Bool). less acc (cond t cand acc)) e ∙ laws .irrefl acc)
   pick-at-most false cand acc = laws .irrefl acc
 
   pick-below : (ok : Bool) (cand acc : V) → ok ≡ true → less cand (pick s ok cand acc) ≡ false
   pick-below true cand acc o = by-bool (less cand acc)
-    (λ e. ap (λ (t : Bool). less cand (cond t cand acc)) e ∙ laws .irrefl cand)
-    (λ e. ap (λ (t : Bool). less cand (cond t cand acc)) e ∙ e)
+      (λ e. ap (λ (t : Bool). less cand (cond t cand acc)) e ∙ laws .irrefl cand)
+      (λ e. ap (λ (t : Bool). less cand (cond t cand acc)) e ∙ e)
   pick-below false cand acc o = absurd (clash false o refl)
 
   pick-keeps : (P : V → Type 0) (ok : Bool) (cand acc : V) → (ok ≡ true → P cand) → P acc → P (pick s ok cand acc)
   pick-keeps P true cand acc f g = by-bool (less cand acc)
-    (λ e. subst (λ (t : Bool). P (cond t cand acc)) (sym e) (f refl))
-    (λ e. subst (λ (t : Bool). P (cond t cand acc)) (sym e) g)
+      (λ e. subst (λ (t : Bool). P (cond t cand acc)) (sym e) (f refl))
+      (λ e. subst (λ (t : Bool). P (cond t cand acc)) (sym e) g)
   pick-keeps P false cand acc f g = g
 
   -- ---- one node

@@ -39,14 +39,14 @@ module _ {V : Type 0} (s : Ghosts V) (laws : Lawful s) (steps : Steps V) where
       record {
         top = omega arith;
         nodes = λ j l u. ⊎-elim
-          (λ (e : j ≡ k). subst (λ (i : ℕ). getD (set ys k v) i 0 < 64) (sym e) (rw here (step .0)))
-          (λ (n : j ≡ k → ⊥). let l′ : k < j = omega arith in rw (other j l′) (w .nodes j l′ u))
-          (cases-eq j k);
+            (λ (e : j ≡ k). subst (λ (i : ℕ). getD (set ys k v) i 0 < 64) (sym e) (rw here (step .0)))
+            (λ (n : j ≡ k → ⊥). let l′ : k < j = omega arith in rw (other j l′) (w .nodes j l′ u))
+            (cases-eq j k);
         falls = λ i e. subst (Falls s steps i) (sym here) (again i e (step .0) (step .1) (step .2));
         down = λ j l u. ⊎-elim
-          (λ (e : j ≡ k). subst (λ (i : ℕ). Down s steps i (getD (set ys k v) (suc i) 0) (getD (set ys k v) i 0)) (sym e) (subst₂ (Down s steps k) (sym (other (suc k) (omega arith))) (sym here) (step .1, step .2, lt)))
-          (λ (n : j ≡ k → ⊥). let l′ : k < j = omega arith in subst₂ (Down s steps j) (sym (other (suc j) (omega arith))) (sym (other j l′)) (w .down j l′ u))
-          (cases-eq j k);
+            (λ (e : j ≡ k). subst (λ (i : ℕ). Down s steps i (getD (set ys k v) (suc i) 0) (getD (set ys k v) i 0)) (sym e) (subst₂ (Down s steps k) (sym (other (suc k) (omega arith))) (sym here) (step .1, step .2, lt)))
+            (λ (n : j ≡ k → ⊥). let l′ : k < j = omega arith in subst₂ (Down s steps j) (sym (other (suc j) (omega arith))) (sym (other j l′)) (w .down j l′ u))
+            (cases-eq j k);
       }
     where
       again : (i : ℕ) → k ≡ suc i → v < 64 → steps .has (getD ys (suc k) 0) v ≡ true → level s steps 64 (suc k) (getD ys (suc k) 0) ≡ s .plus (steps .cost (getD ys (suc k) 0) v) (level s steps 64 k v) → Falls s steps i v
@@ -57,8 +57,8 @@ module _ {V : Type 0} (s : Ghosts V) (laws : Lawful s) (steps : Steps V) where
 
   -- one turn of the loop, in which k is t - 1 and the nodes of layer k stand from the place 64 k on
   pub walk-more : (ys ns : List ℕ) (t k : ℕ) → t ≡ suc k → length ys ≡ 65 → Walked s steps ys t
-    → ((j : ℕ) → j < 64 → (u : ℕ) → u < 64 → getD ns (j * 64 + u) 0 ≡ chosen s steps (level s steps 64 j) u 64)
-    → Walked s steps (set ys k (getD ns (k * 64 + getD ys (k + 1) 0) 0)) k
+      → ((j : ℕ) → j < 64 → (u : ℕ) → u < 64 → getD ns (j * 64 + u) 0 ≡ chosen s steps (level s steps 64 j) u 64)
+      → Walked s steps (set ys k (getD ns (k * 64 + getD ys (k + 1) 0) 0)) k
   walk-more ys ns t k e len w next =
       let w′ : Walked s steps ys (suc k) = subst (Walked s steps ys) e w in
       let tops : suc k ≤ 64 = w′ .top in
@@ -75,5 +75,5 @@ module _ {V : Type 0} (s : Ghosts V) (laws : Lawful s) (steps : Steps V) where
         nodes = λ j l u. w .nodes j (omega arith) (omega arith);
         has = λ j l u. w .down j (omega arith) (omega arith) .0;
         below = subst (λ (n : ℕ). s .less (total s (down steps (λ j. getD ys j 0) low) n) (s .nothing) ≡ true) gap-is
-          (ring-below s laws steps 64 (λ j. getD ys j 0) low (high - low - 1) (λ j l u. w .down j (omega arith) (omega arith)) (ap (λ (i : ℕ). getD ys i 0) high-is ∙ f .closed));
+            (ring-below s laws steps 64 (λ j. getD ys j 0) low (high - low - 1) (λ j l u. w .down j (omega arith) (omega arith)) (ap (λ (i : ℕ). getD ys i 0) high-is ∙ f .closed));
       }

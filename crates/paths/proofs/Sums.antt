@@ -48,7 +48,7 @@ module _ {V : Type 0} (s : Ghosts V) (laws : Lawful s) where
     round-counts =
         total-counts (s .mark t) (s .hop t) (λ i. is-mark w (round xs i) (round xs (suc i))) (length xs)
         ∙ ap (λ (n : ℕ). plus (times s (marks-of w xs) (s .mark t)) (times s n (s .hop t)))
-            (sym (sum-same (λ i. bit (is-hop w (round xs i) (round xs (suc i)))) (λ i. bit (not (is-mark w (round xs i) (round xs (suc i))))) (length xs) (λ i l. ap bit (other (step w (round xs i) (round xs (suc i))) (c .steps i l)))))
+        (sym (sum-same (λ i. bit (is-hop w (round xs i) (round xs (suc i)))) (λ i. bit (not (is-mark w (round xs i) (round xs (suc i))))) (length xs) (λ i l. ap bit (other (step w (round xs i) (round xs (suc i))) (c .steps i l)))))
 
     -- along the ring: p at its first record is at most the sum so far and p at the record reached
     along : (p : ℕ → V) → Meets s (view-steps s w t) p → (n : ℕ) → s .less (plus (total s (λ i. value s w t (round xs i) (round xs (suc i))) n) (p (round xs n))) (p (round xs 0)) ≡ false
@@ -59,9 +59,9 @@ module _ {V : Type 0} (s : Ghosts V) (laws : Lawful s) where
         let so-far : V = total s (λ i. value s w t (round xs i) (round xs (suc i))) n in
         let same : plus so-far (plus v (p (round xs (suc n)))) ≡ plus (plus v so-far) (p (round xs (suc n))) = left-comm so-far v (p (round xs (suc n))) ∙ sym (laws .assoc v so-far (p (round xs (suc n)))) in
         subst (λ (z : V). s .less z (p (round xs 0)) ≡ false) same
-          (le-trans s laws (p (round xs 0)) (plus so-far (p (round xs n))) (plus so-far (plus v (p (round xs (suc n)))))
-            (along p meets n)
-            (le-plus s laws (p (round xs n)) (plus v (p (round xs (suc n)))) so-far (meets (round xs n) (round xs (suc n)) (round-below w xs c n) (round-below w xs c (suc n)) (round-steps w xs c n))))
+        (le-trans s laws (p (round xs 0)) (plus so-far (p (round xs n))) (plus so-far (plus v (p (round xs (suc n)))))
+        (along p meets n)
+        (le-plus s laws (p (round xs n)) (plus v (p (round xs (suc n)))) so-far (meets (round xs n) (round xs (suc n)) (round-below w xs c n) (round-below w xs c (suc n)) (round-steps w xs c n))))
 
   -- once round, p at the first record is at most the sum and itself: the sum cannot be below nothing
   pub below-forbids : Below-forbids s

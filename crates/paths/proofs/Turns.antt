@@ -36,8 +36,8 @@ module _ {V : Type 0} (s : Ghosts V) (steps : Steps V) (prev prev′ : ℕ → V
   unfolding chosen
   chosen-same zero e f = refl
   chosen-same (suc n) e f = ap₂ (λ (t : Bool) (c : ℕ). cond t n c)
-    (ap₂ (λ (p r : V). steps .has u n && s .less (s .plus (steps .cost u n) p) r) (f n (omega arith)) (reach-same n e (λ v h. f v (omega arith))))
-    (chosen-same n e (λ v h. f v (omega arith)))
+      (ap₂ (λ (p r : V). steps .has u n && s .less (s .plus (steps .cost u n) p) r) (f n (omega arith)) (reach-same n e (λ v h. f v (omega arith))))
+      (chosen-same n e (λ v h. f v (omega arith)))
 
 module _ {V : Type 0} (s : Ghosts V) (steps : Steps V) (n : ℕ) where
   pub level-none : (u : ℕ) → level s steps n 0 u ≡ s .nothing

@@ -41,20 +41,20 @@ module _ (ys : List ℕ) (low high k : ℕ) (some : 0 < k) (high-is : low + k �
   down-next i l = ⊎-elim
       (λ (h : suc i < k). down-here (suc i) h)
       (λ (h : k ≤ suc i).
-        let e : suc i ≡ k = omega arith in
-        let at-low : low ≡ high - suc i = omega arith in
-        let at-high : high - 0 ≡ high = omega arith in
-        ap (λ (p : ℕ). getD ys (high - p % k) 0) e ∙ ap (λ (p : ℕ). getD ys (high - p) 0) (mod-self k) ∙ ap (λ (p : ℕ). getD ys p 0) at-high ∙ closed ∙ ap (λ (p : ℕ). getD ys p 0) at-low)
+      let e : suc i ≡ k = omega arith in
+      let at-low : low ≡ high - suc i = omega arith in
+      let at-high : high - 0 ≡ high = omega arith in
+      ap (λ (p : ℕ). getD ys (high - p % k) 0) e ∙ ap (λ (p : ℕ). getD ys (high - p) 0) (mod-self k) ∙ ap (λ (p : ℕ). getD ys p 0) at-high ∙ closed ∙ ap (λ (p : ℕ). getD ys p 0) at-low)
       (cases-lt (suc i) k)
 
   -- a count of the steps of the walk, from below, is that of the steps down
   pub down-sum : (q : ℕ → ℕ → ℕ) → sum-to (λ i. q (downward ys high k i) (downward ys high k (suc i))) k ≡ sum-to (λ j. q (getD ys (suc (low + j)) 0) (getD ys (low + j) 0)) k
   down-sum q =
       sum-same (λ i. q (downward ys high k i) (downward ys high k (suc i))) (λ i. q (getD ys (suc (low + (k - suc i))) 0) (getD ys (low + (k - suc i)) 0)) k
-        (λ i l.
-          let a : high - i ≡ suc (low + (k - suc i)) = omega arith in
-          let b : high - suc i ≡ low + (k - suc i) = omega arith in
-          ap₂ q (down-here i l ∙ ap (λ (p : ℕ). getD ys p 0) a) (down-next i l ∙ ap (λ (p : ℕ). getD ys p 0) b))
+      (λ i l.
+      let a : high - i ≡ suc (low + (k - suc i)) = omega arith in
+      let b : high - suc i ≡ low + (k - suc i) = omega arith in
+      ap₂ q (down-here i l ∙ ap (λ (p : ℕ). getD ys p 0) a) (down-next i l ∙ ap (λ (p : ℕ). getD ys p 0) b))
       ∙ sum-back (λ j. q (getD ys (suc (low + j)) 0) (getD ys (low + j) 0)) k
 
   module _ (r : ℕ) (zs : List ℕ) (long : length zs ≡ k) (places : (i : ℕ) → i < k → getD zs i 0 ≡ getD ys (high - (i + r) % k) 0) where

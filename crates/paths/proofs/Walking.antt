@@ -33,7 +33,7 @@ module _ {V : Type 0} (s : Ghosts V) (laws : Lawful s) (steps : Steps V) where
   pub level-walk : (k u : ℕ) → Walk s steps k u (level s steps 64 k u)
   level-walk zero u = subst (Walk s steps 0 u) (sym (level-none s steps 64 u)) stop
   level-walk (suc k) u = subst (Walk s steps (suc k) u) (sym (level-more s steps 64 k u))
-    (reach-keeps s laws steps (level s steps 64 k) u (Walk s steps (suc k) u) 64 (walk-more s steps k u (level s steps 64 k u) (level-walk k u))
+      (reach-keeps s laws steps (level s steps 64 k) u (Walk s steps (suc k) u) 64 (walk-more s steps k u (level s steps 64 k u) (level-walk k u))
       (λ v l is. go v l is (level-walk k v)))
 
   -- k steps of extent 1 have together the extent k
@@ -56,5 +56,5 @@ module _ {V : Type 0} (s : Ghosts V) (laws : Lawful s) where
   walks-bound w t p meets low k u z h st stop = low u h st
   walks-bound w t p meets low (suc k) u z h st (go {z = y} v l is walk) =
       le-trans s laws (p u) (s .plus (view-steps s w t .cost u v) (p v)) (s .plus (view-steps s w t .cost u v) y)
-        (meets u v h l is)
-        (le-plus s laws (p v) y (view-steps s w t .cost u v) (walks-bound w t p meets low k v y l (step-head w u v is) walk))
+      (meets u v h l is)
+      (le-plus s laws (p v) y (view-steps s w t .cost u v) (walks-bound w t p meets low k v y l (step-head w u v is) walk))

@@ -16,8 +16,8 @@ Falls s steps k u = s .less (level s steps 64 (suc k) u) (level s steps 64 k u) 
 -- the step from a to b by which the layer j + 1 at a is reached from the layer j at b, and falls
 abbrev pub Down : {V : Type 0} → Ghosts V → Steps V → ℕ → ℕ → ℕ → Type 0
 Down s steps j a b = (steps .has a b ≡ true)
-  × (level s steps 64 (suc j) a ≡ s .plus (steps .cost a b) (level s steps 64 j b))
-  × Falls s steps j a
+    × (level s steps 64 (suc j) a ≡ s .plus (steps .cost a b) (level s steps 64 j b))
+    × Falls s steps j a
 
 -- the places of ys from t up to 64 are the nodes of a walk down from the layer 64 to the layer t
 pub record Walked {V : Type 0} (s : Ghosts V) (steps : Steps V) (ys : List ℕ) (t : ℕ) : Type 0 where

@@ -12,7 +12,7 @@ use Rattle.paths.specs.Bests.{None-above, Forbids}
 
 abbrev pub Walks-bound : {V : Type 0} → Ghosts V → Type 0
 Walks-bound {V} s = (w : View) (t : Thresholds) (p : ℕ → V) → Meets s (view-steps s w t) p → None-above s w p
-  → (k u : ℕ) (z : V) → u < 64 → w .stands u ≡ true → Walk s (view-steps s w t) k u z → s .less z (p u) ≡ false
+    → (k u : ℕ) (z : V) → u < 64 → w .stands u ≡ true → Walk s (view-steps s w t) k u z → s .less z (p u) ≡ false
 
 abbrev pub Below-forbids : {V : Type 0} → Ghosts V → Type 0
 Below-forbids {V} s = (w : View) (t : Thresholds) (xs : List ℕ) → Forbids s w t xs → (p : ℕ → V) → Meets s (view-steps s w t) p → ⊥

@@ -38,10 +38,10 @@ held : (z : ℤ) → natAbs z ≤ 4096 * 1000000 → saturated 63 z ≡ z
 held (pos n) h = ap pos (omega arith)
 held (negsuc n) h = ap negsuc (omega arith)
 
-low : (t : Thresholds) → within-limits t ≡ true → t .t1 ≤ 1000000
+pub low : (t : Thresholds) → within-limits t ≡ true → t .t1 ≤ 1000000
 low t e = leb-true (t .t1) 1000000 (and-parts (leb (t .t1) 1000000) (leb (t .t2) 1000000) (and-parts (leb 1 (t .t1)) (leb (t .t1) 1000000 && leb (t .t2) 1000000) e .1) .0)
 
-near : (t : Thresholds) → within-limits t ≡ true → t .t2 ≤ 1000000
+pub near : (t : Thresholds) → within-limits t ≡ true → t .t2 ≤ 1000000
 near t e = leb-true (t .t2) 1000000 (and-parts (leb (t .t1) 1000000) (leb (t .t2) 1000000) (and-parts (leb 1 (t .t1)) (leb (t .t1) 1000000 && leb (t .t2) 1000000) e .1) .1)
 
 pub whole-laws : Laws (of-whole (pos 0)) whole-plus whole-sum whole-less whole-mark whole-hop whole-extent

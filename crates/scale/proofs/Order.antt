@@ -54,8 +54,8 @@ module _ {V : Type 0} (s : Ghosts V) (laws : Lawful s) where
 
   pub le-plus : (a b c : V) → less b a ≡ false → less (plus c b) (plus c a) ≡ false
   le-plus a b c p = by-bool (less a b)
-    (λ e. asym (plus c a) (plus c b) (lt-plus a b c e))
-    (λ e. ap (λ (z : V). less (plus c b) (plus c z)) (laws .total a b e p) ∙ laws .irrefl (plus c b))
+      (λ e. asym (plus c a) (plus c b) (lt-plus a b c e))
+      (λ e. ap (λ (z : V). less (plus c b) (plus c z)) (laws .total a b e p) ∙ laws .irrefl (plus c b))
 
   -- what leads from y to less than y is less than nothing
   pub falls : (a y : V) → less (plus a y) y ≡ true → less a nothing ≡ true

@@ -10,7 +10,7 @@ use Rattle.scale.specs.Pairs.{both, pair-plus, pair-less, pair-of, pair-extent
 use Rattle.scale.specs.declared.pair.Pair.{Pair}
 
 module _ {X : Type 0} {xn : X} {xp xs : X → X → X} {xl : X → X → Bool} {xm xh : Thresholds → X} {xe : X → ℕ → Type 0} (lx : Laws xn xp xs xl xm xh xe)
-  {Y : Type 0} {yn : Y} {yp ys : Y → Y → Y} {yl : Y → Y → Bool} {ym yh : Thresholds → Y} {ye : Y → ℕ → Type 0} (ly : Laws yn yp ys yl ym yh ye) where
+    {Y : Type 0} {yn : Y} {yp ys : Y → Y → Y} {yl : Y → Y → Bool} {ym yh : Thresholds → Y} {ye : Y → ℕ → Type 0} (ly : Laws yn yp ys yl ym yh ye) where
   -- how a pair is less: by its first part, or by its second where the first parts are equal
   out : (a b : Pair X Y) → pair-less xl yl a b ≡ true → (xl (a .first) (b .first) ≡ true) ⊎ ((a .first ≡ b .first) × (yl (a .second) (b .second) ≡ true))
   out a b = go (xl (a .first) (b .first)) refl (xl (b .first) (a .first)) refl

@@ -1,5 +1,5 @@
 // Scales: the values that grades are counted in.
-pub mod scale;
-pub mod whole;
-pub mod unit;
 pub mod pair;
+pub mod scale;
+pub mod unit;
+pub mod whole;

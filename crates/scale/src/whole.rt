@@ -29,11 +29,15 @@ pub impl Scale for Whole as WholeScale {
     }
 
     fn mark(thresholds: Thresholds) -> Whole {
-        Whole { value: -(thresholds.t1 as i64) }
+        Whole {
+            value: -(thresholds.t1 as i64),
+        }
     }
 
     fn hop(thresholds: Thresholds) -> Whole {
-        Whole { value: thresholds.t2 as i64 }
+        Whole {
+            value: thresholds.t2 as i64,
+        }
     }
 
     fn sum(self, other: Whole) -> Whole {

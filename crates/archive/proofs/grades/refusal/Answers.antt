@@ -16,7 +16,7 @@ pub returns-in-Continue-from-slice : need.returns-in-Continue-from-slice
 returns-in-Continue-from-slice c =
     let k-is : c .in-Forbidden .k - 0 ≡ c .in-Forbidden .k = omega arith in
     subst (λ (d : Decline). Refused d (take (ring-length d) (c .args .ring .now)) (Forced (Decline.Forbidden (c .in-Forbidden .k)) (c .in-Continue-from-slice .field-0))) (sym (c .in-Forbidden .is))
-      (forced (c .in-Continue-from-slice .field-0) refl (c .in-Continue-from-slice .ensures tt .made .0 ∙ ap (λ (n : ℕ). take n (c .args .ring .now)) k-is))
+    (forced (c .in-Continue-from-slice .field-0) refl (c .in-Continue-from-slice .ensures tt .made .0 ∙ ap (λ (n : ℕ). take n (c .args .ring .now)) k-is))
 
 pub returns-in-rest : need.returns-in-rest
 returns-in-rest c = plain (λ e. only-forbidden (c .args .decline) e (c .in-rest .not-Forbidden))

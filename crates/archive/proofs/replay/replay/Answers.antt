@@ -27,15 +27,14 @@ loop-call-again g c =
     let now = c .in-Continue-given .ensures tt in
     let put = c .in-Continue-push .ensures tt in
     let xs = vec-items (c .loop-call .answers) in
-    let ys = vec-items (c .push .last .self) in
-    (
+    let ys = vec-items (c .push .last .self) in (
       now .meaning ∙ ap (λ (b : Meaning). next b call) (inv .0) ∙ sym (run-more m cs i (Enter 0) (c .loop-call-test .taken)),
       omega (arith, put .len, inv .1),
       each-push (λ k x. Right (run m (take k cs)) (getD cs k (Enter 0)) x) xs ys i (c .in-Continue-given .given) Taken
-        (λ k h. put .places .0 k Taken (omega (arith, inv .1)))
-        (ap (λ (n : ℕ). getD ys n Taken) (sym (inv .1)) ∙ put .places .1 Taken refl)
-        (subst (λ (b : Meaning). Right b call (c .in-Continue-given .given)) (inv .0) (now .right))
-        (inv .2)
+          (λ k h. put .places .0 k Taken (omega (arith, inv .1)))
+          (ap (λ (n : ℕ). getD ys n Taken) (sym (inv .1)) ∙ put .places .1 Taken refl)
+          (subst (λ (b : Meaning). Right b call (c .in-Continue-given .given)) (inv .0) (now .right))
+          (inv .2),
     )
 
 pub returns : need.returns

@@ -21,14 +21,15 @@ loop-j-again c =
     let t : c .loop-j .j < c .args .span .high = c .loop-j-test .taken in
     let k : c .args .span .low + 1 ≤ c .loop-j .j = c .loop-j .kept .j in
     let a : c .args .span .low + 1 ≤ c .loop-j .best = inv .0 in
-    let b : c .loop-j .best ≤ c .args .span .high = inv .1 in
-    (⊎-elim (λ (e : c .smaller-best .result ≡ c .loop-j .best). omega arith) (λ (e : c .smaller-best .result ≡ c .loop-j .j). omega arith) (told .0),
-     ⊎-elim (λ (e : c .smaller-best .result ≡ c .loop-j .best). omega arith) (λ (e : c .smaller-best .result ≡ c .loop-j .j). omega arith) (told .0),
-     omega (arith, told .1, inv .2),
-     λ i l u. ⊎-elim
-       (λ (e : i ≡ c .loop-j .j). subst (λ (x : ℕ). getD (c .args .walk .now) (c .smaller-best .result) 0 ≤ getD (c .args .walk .now) x 0) (sym e) (told .2))
-       (λ (n : i ≡ c .loop-j .j → ⊥). omega (arith, told .1, inv .3 i l (omega arith)))
-       (cases-eq i (c .loop-j .j)))
+    let b : c .loop-j .best ≤ c .args .span .high = inv .1 in (
+      ⊎-elim (λ (e : c .smaller-best .result ≡ c .loop-j .best). omega arith) (λ (e : c .smaller-best .result ≡ c .loop-j .j). omega arith) (told .0),
+      ⊎-elim (λ (e : c .smaller-best .result ≡ c .loop-j .best). omega arith) (λ (e : c .smaller-best .result ≡ c .loop-j .j). omega arith) (told .0),
+      omega (arith, told .1, inv .2),
+      λ i l u. ⊎-elim
+          (λ (e : i ≡ c .loop-j .j). subst (λ (x : ℕ). getD (c .args .walk .now) (c .smaller-best .result) 0 ≤ getD (c .args .walk .now) x 0) (sym e) (told .2))
+          (λ (n : i ≡ c .loop-j .j → ⊥). omega (arith, told .1, inv .3 i l (omega arith)))
+          (cases-eq i (c .loop-j .j)),
+    )
 
 pub returns : need.returns
 returns c =
@@ -38,7 +39,7 @@ returns c =
       above = omega (arith, inv .0);
       within = inv .1;
       least = λ j l u. ⊎-elim
-        (λ (e : j ≡ c .args .span .high). subst (λ (x : ℕ). getD (c .args .walk .now) (c .loop-j .best) 0 ≤ getD (c .args .walk .now) x 0) (sym e) (inv .2))
-        (λ (n : j ≡ c .args .span .high → ⊥). inv .3 j (omega arith) (omega arith))
-        (cases-eq j (c .args .span .high));
+          (λ (e : j ≡ c .args .span .high). subst (λ (x : ℕ). getD (c .args .walk .now) (c .loop-j .best) 0 ≤ getD (c .args .walk .now) x 0) (sym e) (inv .2))
+          (λ (n : j ≡ c .args .span .high → ⊥). inv .3 j (omega arith) (omega arith))
+          (cases-eq j (c .args .span .high));
     }

@@ -29,10 +29,12 @@ returns-in-Some g c w t spells =
     let top : c .find-repeat-span .result .high ≤ 64 = c .find-repeat-span .ensures .within in
     let long : c .write-ring .result ≡ c .find-repeat-span .result .high - c .find-repeat-span .result .low = c .write-ring .ensures .long in
     let room : 64 ≤ length (c .write-ring .last .ring) = omega (arith, enough-parts (length (c .args .grades .now)) (length (c .args .ring .now)) (length (c .args .values .now)) (length (c .args .bytes .now)) (c .pre .0) .ring-64) in
-    let loop = loop-made s laws (problem-steps p) (c .walk-down .last .walk) low high (c .walk-down .ensures) (c .find-repeat-span .ensures) in
-    (refl, record {
-      short = omega arith;
-      ring = subst (λ (k : ℕ). Forbids s w t (take k (c .write-ring .last .ring))) (sym long) (forbids-shown s laws w t p spells (c .walk-down .last .walk) (c .write-ring .last .ring) low high loop (c .write-ring .ensures .written) room);
-      past = c .write-ring .ensures .kept;
-      grades = refl;
-    })
+    let loop = loop-made s laws (problem-steps p) (c .walk-down .last .walk) low high (c .walk-down .ensures) (c .find-repeat-span .ensures) in (
+      refl,
+      record {
+        short = omega arith;
+        ring = subst (λ (k : ℕ). Forbids s w t (take k (c .write-ring .last .ring))) (sym long) (forbids-shown s laws w t p spells (c .walk-down .last .walk) (c .write-ring .last .ring) low high loop (c .write-ring .ensures .written) room);
+        past = c .write-ring .ensures .kept;
+        grades = refl;
+      },
+    )

@@ -6,4 +6,4 @@ use Rattle.grading.proofs.graph.read.Given as given
 
 abbrev pub Inv-loop-u : given.InvT-loop-u
 Inv-loop-u g l = (length (l .hops) ≡ 64)
-  × ((u : ℕ) → u < l .u → Collected (unmarked-from (l .standing) (l .marks) u) 64 (getD (l .hops) u 0))
+    × ((u : ℕ) → u < l .u → Collected (unmarked-from (l .standing) (l .marks) u) 64 (getD (l .hops) u 0))

@@ -15,8 +15,8 @@ returns g c =
     let w = view-of (g .S·Sheet) (c .args .sheet .now) in
     let t = c .args .thresholds in
     outcome-so w t (Best s w t) (λ h. Best-loose w t (λ u. h u .value)) (s .nothing) (Forbids s w t) (Forbids-loosely w t)
-      (best-loose s whole-laws t (λ x. x .value) (whole-numbered t) w)
-      (forbids-loosely s whole-laws t (λ x. x .value) (whole-numbered t) w)
-      (memory (c .args .grades .now) (c .args .ring .now) (c .args .values .now) (c .args .bytes .now))
-      (memory (c .grade .last .grades) (c .grade .last .ring) (c .grade .last .values) (c .grade .last .bytes))
-      (c .grade .result) (c .grade .ensures)
+    (best-loose s whole-laws t (λ x. x .value) (whole-numbered t) w)
+    (forbids-loosely s whole-laws t (λ x. x .value) (whole-numbered t) w)
+    (memory (c .args .grades .now) (c .args .ring .now) (c .args .values .now) (c .args .bytes .now))
+    (memory (c .grade .last .grades) (c .grade .last .ring) (c .grade .last .values) (c .grade .last .bytes))
+    (c .grade .result) (c .grade .ensures)

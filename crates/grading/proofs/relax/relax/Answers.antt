@@ -21,7 +21,7 @@ returns-in-None g c =
 pub loop-k-again : need.loop-k-again
 loop-k-again g c =
     running-more (g .V·Scale) (g .V·Scale·met .lawful) (c .args .problem .now) (c .loop-k .k) (c .loop-k .last) (c .loop-k .old) (c .relax-round .last .to) (c .loop-k .next) (c .relax-round .last .next) (c .loop-k .inv) (c .relax-round .ensures)
-      (c .in-Some .u) (c .copy-from-slice .last .self) (c .copy-from-slice .ensures .after) (omega arith) (omega arith) (omega arith) (c .in-Some .ensures tt)
+    (c .in-Some .u) (c .copy-from-slice .last .self) (c .copy-from-slice .ensures .after) (omega arith) (omega arith) (omega arith) (c .in-Some .ensures tt)
 
 pub returns : need.returns
 returns g c = unsettled-made (g .V·Scale) (g .V·Scale·met .lawful) (c .args .problem .now) (c .loop-k .k) (c .loop-k .last) (c .loop-k .old) (c .loop-k .next) (omega arith) (c .loop-k .inv)

@@ -18,7 +18,7 @@ returns g c =
     let within : c .args .v < length (c .args .from .now) = omega (arith, c .pre .1) in
     let value : at s (c .args .from .now) (c .args .v) ≡ c .index-from-v .result = sym (getD-read (c .args .from .now) (c .args .v) (c .index-from-v .result) within (c .index-from-v .is) (s .nothing)) in
     let cost : c .if-has-bit .cost ≡ problem-steps p .cost (c .args .u) (c .args .v) =
-          elim (c .if-has-bit .came) [ then-has-bit w ↦ w .cost-is ∙ ap (λ (b : Bool). cond b (p .mark) (p .hop)) (w .if-has-bit .ensures tt) | else-has-bit w ↦ w .cost-is ∙ ap (λ (b : Bool). cond b (p .mark) (p .hop)) (w .if-has-bit .ensures tt) ] in
+    elim (c .if-has-bit .came) [ then-has-bit w ↦ w .cost-is ∙ ap (λ (b : Bool). cond b (p .mark) (p .hop)) (w .if-has-bit .ensures tt) | else-has-bit w ↦ w .cost-is ∙ ap (λ (b : Bool). cond b (p .mark) (p .hop)) (w .if-has-bit .ensures tt) ] in
     c .sum .ensures ∙ ap₂ (s .sum) cost (sym value)
     ∙ g .V·Scale·met .lawful .exact (problem-steps p .cost (c .args .u) (c .args .v)) (at s (c .args .from .now) (c .args .v)) 1 64
-        (cost-extent s (g .V·Scale·met .lawful) p (c .pre .2 .costs) (c .args .u) (c .args .v)) (c .pre .2 .extents (c .args .v) (c .pre .1)) (omega arith)
+    (cost-extent s (g .V·Scale·met .lawful) p (c .pre .2 .costs) (c .args .u) (c .args .v)) (c .pre .2 .extents (c .args .v) (c .pre .1)) (omega arith)

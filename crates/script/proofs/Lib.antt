@@ -1,0 +1,9 @@
+pub mod Digits
+pub mod Fields
+pub mod OneWay
+pub mod FirstLine
+pub mod Sizes
+pub mod Puts
+pub mod Said
+pub mod Printing
+pub mod Judging
