@@ -17,9 +17,13 @@ Collected f n word = (k : ℕ) → has word k ≡ (ltb k n && f k)
 abbrev pub both-in : ℕ → ℕ → ℕ → Bool
 both-in set u v = has set u && (has set v && not (eqb u v))
 
--- u and v are in the set, and rows has no bit from one to the other
+-- no row has a bit from one of the two to the other
+abbrev pub unmarked-in : List ℕ → ℕ → ℕ → Bool
+unmarked-in rows u v = not (has (getD rows u 0) v) && not (has (getD rows v 0) u)
+
+-- and both are in the set
 abbrev pub unmarked-from : ℕ → List ℕ → ℕ → ℕ → Bool
-unmarked-from set rows u v = both-in set u v && (not (has (getD rows u 0) v) && not (has (getD rows v 0) u))
+unmarked-from set rows u v = both-in set u v && unmarked-in rows u v
 
 -- the first n rows are the marks of the view
 pub record Mark-rows (w : View) (n : ℕ) (rows : List ℕ) : Type 0 where

@@ -4,7 +4,7 @@ ghost use mathlib.Core.Bool.{Bool};
 ghost use Prim.Native.Nat.{ℕ, _+_, _<_};
 ghost use Rattle.model.specs.Views.{is-mark};
 ghost use Rattle.sheet.specs.Views.{view-of};
-ghost use Rattle.grading.specs.Graphs.{Collected, both-in, unmarked-from, Mark-rows, Draws};
+ghost use Rattle.grading.specs.Graphs.{Collected, both-in, unmarked-in, unmarked-from, Mark-rows, Draws};
 use model::bits::has_bit;
 use model::bits::with_bit;
 use sheet::meaning::Sheet;
@@ -42,12 +42,19 @@ fn both(standing: u64, u: usize, v: usize) -> bool
     has_bit(standing, u) & (has_bit(standing, v) & !(u == v))
 }
 
+fn ask_mark<S: Sheet>(sheet: &S, u: usize, v: usize) -> bool
+    requires { ⌜ (u < 64) × (v < 64) ⌝ }
+    ensures { λ r. ⌜ r ≡ S·Sheet .marks (now (sheet .entry)) u v ⌝ }
+{
+    sheet.marked(u as u8, v as u8)
+}
+
 // Whether a mark leads from u to v. The sheet is asked of two standing records alone.
 fn is_marked<S: Sheet>(sheet: &S, standing: u64, u: usize, v: usize) -> bool
     requires { ⌜ (u < 64) × (v < 64) × Collected (view-of S·Sheet (now sheet) .stands) 64 standing ⌝ }
     ensures { λ r. ⌜ r ≡ is-mark (view-of S·Sheet (now (sheet .entry))) u v ⌝ }
 {
-    both(standing, u, v) && sheet.marked(u as u8, v as u8)
+    both(standing, u, v) && ask_mark(sheet, u, v)
 }
 
 fn mark_row<S: Sheet>(sheet: &S, standing: u64, u: usize) -> u64
@@ -72,6 +79,14 @@ fn mark_rows<S: Sheet>(sheet: &S, standing: u64) -> [u64; 64]
     rows
 }
 
+// No row has a bit from one of the two to the other.
+fn unmarked(marks: &[u64; 64], u: usize, v: usize) -> bool
+    requires { ⌜ (u < 64) × (v < 64) ⌝ }
+    ensures { λ r. ⌜ r ≡ unmarked-in (now (marks .entry)) u v ⌝ }
+{
+    !has_bit(marks[u], v) & !has_bit(marks[v], u)
+}
+
 // The hops from u: to every other standing record that no mark leads to or from.
 fn hop_row(standing: u64, marks: &[u64; 64], u: usize) -> u64
     requires { ⌜ u < 64 ⌝ }
@@ -79,11 +94,7 @@ fn hop_row(standing: u64, marks: &[u64; 64], u: usize) -> u64
 {
     let mut row = 0;
     for v in 0..64 {
-        row = collect_bit(
-            row,
-            v,
-            both(standing, u, v) & (!has_bit(marks[u], v) & !has_bit(marks[v], u)),
-        );
+        row = collect_bit(row, v, both(standing, u, v) & unmarked(marks, u, v));
     }
     row
 }

@@ -31,17 +31,24 @@ fn has_step<V: Scale>(problem: &Problem<V>, u: usize, v: usize) -> bool
     has_bit(problem.graph.marks[u], v) | has_bit(problem.graph.hops[u], v)
 }
 
+// The value of a step from u to v: the mark's where there is one, or else the hop's.
+fn cost_of<V: Scale>(problem: &Problem<V>, u: usize, v: usize) -> V
+    requires { ⌜ u < 64 ⌝ }
+    ensures { λ r. ⌜ r ≡ problem-steps (now (problem .entry)) .cost u v ⌝ }
+{
+    if has_bit(problem.graph.marks[u], v) {
+        problem.mark
+    } else {
+        problem.hop
+    }
+}
+
 // The value of the step from u to v, and then of `from` at v.
 fn step_to<V: Scale>(problem: &Problem<V>, from: &[V], u: usize, v: usize) -> V
     requires { ⌜ (u < 64) × (v < 64) × Ready V·Scale (now problem) (now from) ⌝ }
     ensures { λ r. ⌜ r ≡ V·Scale .plus (problem-steps (now (problem .entry)) .cost u v) (at V·Scale (now (from .entry)) v) ⌝ }
 {
-    let cost = if has_bit(problem.graph.marks[u], v) {
-        problem.mark
-    } else {
-        problem.hop
-    };
-    cost.sum(from[v])
+    cost_of(problem, u, v).sum(from[v])
 }
 
 // Goes on from `best` by the step from u to v, where there is one.

@@ -9,7 +9,7 @@ pub loop-v-holds : need.loop-v-holds
 loop-v-holds c = none-collected _
 
 pub loop-v-again : need.loop-v-again
-loop-v-again c = c .collect-bit-row .ensures (unmarked-from (c .args .standing) (c .args .marks .now) (c .args .u)) (rw (c .both .ensures, c .has-bit .ensures, c .has-bit-in-loop-v .ensures)) (c .loop-v .inv)
+loop-v-again c = c .collect-bit-row .ensures (unmarked-from (c .args .standing) (c .args .marks .now) (c .args .u)) (rw (c .both .ensures, c .unmarked .ensures)) (c .loop-v .inv)
 
 pub returns : need.returns
 returns c =

@@ -9,7 +9,7 @@ pub returns-then-both : need.returns-then-both
 returns-then-both g c =
     let w : View = view-of (g .S·Sheet) (c .args .sheet .now) in
     let t : two w (c .args .u) (c .args .v) ≡ true = sym (both-two w (c .args .standing) (c .args .u) (c .args .v) (c .pre .2) (c .pre .0) (c .pre .1)) ∙ sym (c .if-both .ensures tt) in
-    c .marked .ensures ∙ sym (mark-by w (c .args .u) (c .args .v) ∙ ap (λ (b : Bool). b && w .marked (c .args .u) (c .args .v)) t)
+    c .ask-mark .ensures ∙ sym (mark-by w (c .args .u) (c .args .v) ∙ ap (λ (b : Bool). b && w .marked (c .args .u) (c .args .v)) t)
 
 pub returns-else-both : need.returns-else-both
 returns-else-both g c =

@@ -18,5 +18,5 @@ returns g c =
     (best-loose s whole-laws t (λ x. x .value) (whole-numbered t) w)
     (forbids-loosely s whole-laws t (λ x. x .value) (whole-numbered t) w)
     (memory (c .args .grades .now) (c .args .ring .now) (c .args .values .now) (c .args .bytes .now))
-    (memory (c .grade .last .grades) (c .grade .last .ring) (c .grade .last .values) (c .grade .last .bytes))
-    (c .grade .result) (c .grade .ensures)
+    (memory (c .on-wholes .last .grades) (c .on-wholes .last .ring) (c .on-wholes .last .values) (c .on-wholes .last .bytes))
+    (c .on-wholes .result) (c .on-wholes .ensures)

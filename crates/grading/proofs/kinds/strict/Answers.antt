@@ -14,5 +14,5 @@ returns g c =
     let t = c .args .thresholds in
     outcome-so w t (Best s w t) (Best-strict w t) (s .nothing) (Forbids s w t) (Forbids-strictly w t) (best-strict w t) (forbids-strictly w t)
     (memory (c .args .grades .now) (c .args .ring .now) (c .args .values .now) (c .args .bytes .now))
-    (memory (c .grade .last .grades) (c .grade .last .ring) (c .grade .last .values) (c .grade .last .bytes))
-    (c .grade .result) (c .grade .ensures)
+    (memory (c .on-pairs .last .grades) (c .on-pairs .last .ring) (c .on-pairs .last .values) (c .on-pairs .last .bytes))
+    (c .on-pairs .result) (c .on-pairs .ensures)

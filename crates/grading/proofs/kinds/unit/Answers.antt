@@ -19,5 +19,5 @@ returns g c =
     (best-loose s unit-laws t (λ x. x .value) unit-numbered w)
     (forbids-loosely s unit-laws t (λ x. x .value) unit-numbered w)
     (memory (c .args .grades .now) (c .args .ring .now) (c .args .values .now) (c .args .bytes .now))
-    (memory (c .grade .last .grades) (c .grade .last .ring) (c .grade .last .values) (c .grade .last .bytes))
-    (c .grade .result) (c .grade .ensures)
+    (memory (c .on-units .last .grades) (c .on-units .last .ring) (c .on-units .last .values) (c .on-units .last .bytes))
+    (c .on-units .result) (c .on-units .ensures)
