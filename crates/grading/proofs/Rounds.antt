@@ -22,8 +22,10 @@ use Rattle.paths.proofs.Layers.{level-at-most, level-down, settled}
 use Rattle.paths.proofs.Turns.{reach-none, chosen-none, reach-more, chosen-more, reach-same, chosen-same, level-none, level-more}
 use Rattle.paths.proofs.Walking.{walk-longer, level-walk, walk-extent}
 use Rattle.grading.specs.declared.relax.Reached.{Reached}
-use Rattle.grading.specs.declared.relax.Problem.{Problem}
-use Rattle.grading.specs.Relaxing.{at, graph-marks, problem-steps, Costs, Ready, Tried, Relaxed, Rounded, No-fall, Fall, Settled, Next-row, Running, Unsettled}
+use Rattle.grading.specs.declared.problem.Problem.{Problem}
+use Rattle.grading.specs.Problems.{at, graph-marks, problem-steps, Costs, Ready}
+use Rattle.grading.specs.Relaxing.{Tried, Relaxed, Rounded, No-fall, Fall}
+use Rattle.grading.specs.Settling.{Settled, Next-row, Running, Fallen}
 
 -- ---- one record
 module _ {V : Type 0} (s : Ghosts V) (steps : Steps V) (prev : ℕ → V) (u : ℕ) where
@@ -75,21 +77,23 @@ module _ {V : Type 0} (s : Ghosts V) (laws : Lawful s) (p : Problem V) where
       let e : (64 - k) + k ≡ 64 = omega arith in
       subst (λ (n : ℕ). Walk s steps n u (level s steps 64 k u)) e (walk-longer s steps k (64 - k) u (level s steps 64 k u) (level-walk s laws steps k u))
 
-  pub running-ready : (k last : ℕ) (old : List V) (ns : List ℕ) → k ≤ 64 → length old ≡ 64 → Costs s p → Running s steps k old ns last → Ready s p old
-  running-ready k last old ns h len c run = record {
-    long = len;
-    costs = c;
-    extents = λ u l. subst (λ (z : V). s .extent z 64) (sym (run .layer u l)) (walk-extent s laws steps (cost-extent c) 64 u (level s steps 64 k u) (omega arith) (walk-64 k u h));
-  }
+  pub running-ready : (k : ℕ) (old : List V) (ns : List ℕ) → length old ≡ 64 → Costs s p → Running s steps k old ns → Ready s p old
+  running-ready k old ns len c run =
+      let h : k < 64 = run .early in
+      record {
+        long = len;
+        costs = c;
+        extents = λ u l. subst (λ (z : V). s .extent z 64) (sym (run .layer u l)) (walk-extent s laws steps (cost-extent c) 64 u (level s steps 64 k u) (omega arith) (walk-64 k u (omega arith)));
+      }
 
-  pub running-none : (old : List V) (ns : List ℕ) (last : ℕ) → ((u : ℕ) → u < 64 → at s old u ≡ s .nothing) → Running s steps 0 old ns last
-  running-none old ns last f = record {
+  pub running-none : (old : List V) (ns : List ℕ) → ((u : ℕ) → u < 64 → at s old u ≡ s .nothing) → Running s steps 0 old ns
+  running-none old ns f = record {
+    early = omega arith;
     layer = λ u l. f u l ∙ sym (level-none s steps 64 u);
     nexts = λ j l. absurd (omega arith);
-    fell = λ j e. absurd (omega arith);
   }
 
-  module _ (k last : ℕ) (old new : List V) (ns part : List ℕ) (run : Running s steps k old ns last) (rounded : Rounded s steps (at s old) 64 new part) where
+  module _ (k : ℕ) (old new : List V) (ns part : List ℕ) (run : Running s steps k old ns) (rounded : Rounded s steps (at s old) 64 new part) where
     -- the round from the layer k is the layer k + 1
     new-layer : (u : ℕ) → u < 64 → at s new u ≡ level s steps 64 (suc k) u
     new-layer u l = rounded .least u l ∙ reach-same s steps (at s old) (level s steps 64 k) u 64 (run .layer u l) (run .layer) ∙ sym (level-more s steps 64 k u)
@@ -98,11 +102,11 @@ module _ {V : Type 0} (s : Ghosts V) (laws : Lawful s) (p : Problem V) where
     new-nexts u l = rounded .nexts u l ∙ chosen-same s steps (at s old) (level s steps 64 k) u 64 (run .layer u l) (run .layer)
 
     -- a round without a fall changes nothing, so that its layer meets every step
-    pub settled-made : k ≤ 64 → No-fall s 64 old new → Settled s steps (at s old)
-    settled-made h still = record {
+    pub settled-made : No-fall s 64 old new → Settled s steps (at s old)
+    settled-made still = record {
       meets = λ u v a b is. rw (run .layer u a, run .layer v b) (settled s laws steps 64 k same u v a b is);
       low = λ u l. subst (λ (z : V). s .less (s .nothing) z ≡ false) (sym (run .layer u l)) (under u);
-      walk = λ u l. subst (Walk s steps 64 u) (sym (run .layer u l)) (walk-64 k u h);
+      walk = λ u l. subst (Walk s steps 64 u) (sym (run .layer u l)) (walk-64 k u (let h : k < 64 = run .early in omega arith));
     }
       where
         same : (u : ℕ) → u < 64 → level s steps 64 (suc k) u ≡ level s steps 64 k u
@@ -111,19 +115,29 @@ module _ {V : Type 0} (s : Ghosts V) (laws : Lawful s) (p : Problem V) where
         under : (u : ℕ) → s .less (s .nothing) (level s steps 64 k u) ≡ false
         under u = rw (level-none s steps 64 u, zero-add k) at (level-down s laws steps 64 0 k u)
 
-    pub running-more : (u : ℕ) (kept : List V) → kept ≡ new → k < 64 → length ns ≡ 4096 → length part ≡ 64 → Fall s old new u
-        → Running s steps (k + 1) kept (putMid (k * 64) (k * 64 + 64 - k * 64) ns part) u
-    running-more u kept e hk ln lp fall = record {
-      layer = λ v l. ap (λ (xs : List V). at s xs v) e ∙ new-layer v l ∙ ap (λ (n : ℕ). level s steps 64 n v) (sym (add-one k));
-      nexts = below-more (Next-row s steps (putMid (k * 64) (k * 64 + 64 - k * 64) ns part)) k
-          (λ j l v lv. mid-before (k * 64) (k * 64 + 64 - k * 64) (j * 64 + v) ns part (omega arith) (omega arith) ∙ run .nexts j l v lv)
-          (λ v lv. mid-inside (k * 64) (k * 64 + 64 - k * 64) v ns part (omega arith) (omega arith) ∙ new-nexts v lv);
-      fell = λ j f.
-          let is : k ≡ j = omega arith in
-          (fall .0, subst (λ (i : ℕ). Falls s steps i u) is (rw (new-layer u (fall .0), run .layer u (fall .0)) at (fall .1)));
+    -- the rows after the round
+    abbrev rows : List ℕ
+    rows = putMid (k * 64) (k * 64 + 64 - k * 64) ns part
+
+    rows-more : length ns ≡ 4096 → length part ≡ 64 → (j : ℕ) → j < k + 1 → Next-row s steps rows j
+    rows-more ln lp =
+        let h : k < 64 = run .early in
+        below-more (Next-row s steps rows) k
+        (λ j l v lv. mid-before (k * 64) (k * 64 + 64 - k * 64) (j * 64 + v) ns part (omega arith) (omega arith) ∙ run .nexts j l v lv)
+        (λ v lv. mid-inside (k * 64) (k * 64 + 64 - k * 64) v ns part (omega arith) (omega arith) ∙ new-nexts v lv)
+
+    -- a fall: the way down is in the rows
+    pub fallen-made : (u : ℕ) → length ns ≡ 4096 → length part ≡ 64 → Fall s old new u → Fallen s steps rows k u
+    fallen-made u ln lp fall = record {
+      early = run .early;
+      record-low = fall .0;
+      falls = rw (new-layer u (fall .0), run .layer u (fall .0)) at (fall .1);
+      nexts = rows-more ln lp;
     }
 
-  pub unsettled-made : (k last : ℕ) (old : List V) (ns : List ℕ) → k ≡ 64 → Running s steps k old ns last → Unsettled s steps ns last
-  unsettled-made k last old ns e run =
-      let f = run .fell 63 (omega arith) in
-      record { record-low = f .0; falls = f .1; nexts = λ j l. run .nexts j (omega arith) }
+    pub running-more : (kept : List V) → kept ≡ new → k + 1 < 64 → length ns ≡ 4096 → length part ≡ 64 → Running s steps (k + 1) kept rows
+    running-more kept e early ln lp = record {
+      early = early;
+      layer = λ v l. ap (λ (xs : List V). at s xs v) e ∙ new-layer v l ∙ ap (λ (n : ℕ). level s steps 64 n v) (sym (add-one k));
+      nexts = rows-more ln lp;
+    }

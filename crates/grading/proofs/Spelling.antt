@@ -22,9 +22,9 @@ use Rattle.paths.specs.Bests.{Best, Forbids}
 use Rattle.paths.specs.Descents.{Loop, Written}
 use Rattle.paths.proofs.Walking.{walk-same, walk-extent, walks-bound}
 use Rattle.paths.proofs.Written.{forbids-made}
-use Rattle.grading.specs.declared.relax.Problem.{Problem}
-use Rattle.grading.specs.Relaxing.{at, graph-marks, problem-steps, Costs, Settled}
-use Rattle.grading.specs.Problems.{Spells, Copied}
+use Rattle.grading.specs.declared.problem.Problem.{Problem}
+use Rattle.grading.specs.Settling.{Settled}
+use Rattle.grading.specs.Problems.{at, problem-steps, Spells, Copied}
 use Rattle.grading.specs.Outcomes.{enough}
 
 -- what enough memory is, number by number

@@ -5,9 +5,10 @@ ghost use Prim.Native.Nat.{ℕ, _+_, _-_, _%_, _≤_, _<_};
 ghost use lib.ListN.{length, getD};
 ghost use Rattle.std.specs.Options.{Cases as BySome};
 ghost use Rattle.paths.specs.Descents.{Walked, Repeat, Written};
-ghost use Rattle.grading.specs.Relaxing.{problem-steps, Unsettled};
+ghost use Rattle.grading.specs.Problems.{problem-steps};
+ghost use Rattle.grading.specs.Settling.{Fallen};
 ghost use Rattle.grading.specs.Rings.{Unseen, Smallest, Part, Placed};
-use crate::relax::Problem;
+use crate::problem::Problem;
 use scale::scale::Scale;
 
 // The places of a walk at which one record stands, and all between.
@@ -17,16 +18,22 @@ pub struct Span {
     pub high: usize,
 }
 
-// Writes the walk from `start` at the layer 64 down to the layer 0, by what each layer was reached by.
-pub fn walk_down<V: Scale>(problem: &Problem<V>, next: &[u8], start: usize, walk: &mut [u8])
-    requires { ⌜ (length (now next) ≡ 4096) × (length (now walk) ≡ 65) × Unsettled V·Scale (problem-steps (now problem)) (now next) start ⌝ }
-    ensures { λ _. ⌜ Walked V·Scale (problem-steps (now (problem .entry))) (now (walk .exit)) 0 ⌝ }
+// Writes the walk from `start`, at which the layer k + 1 fell, down to the layer 0, by what each layer was reached by.
+pub fn walk_down<V: Scale>(
+    problem: &Problem<V>,
+    next: &[u8],
+    k: usize,
+    start: usize,
+    walk: &mut [u8],
+)
+    requires { ⌜ (length (now next) ≡ 4096) × (length (now walk) ≡ 65) × Fallen V·Scale (problem-steps (now problem)) (now next) k start ⌝ }
+    ensures { λ _. ⌜ Walked V·Scale (problem-steps (now (problem .entry))) (now (walk .exit)) (k + 1) 0 ⌝ }
 {
-    walk[64] = start as u8;
-    let mut k = 64;
-    while k > 0 {
-        k -= 1;
-        walk[k] = next[k * 64 + walk[k + 1] as usize];
+    walk[k + 1] = start as u8;
+    let mut t = k + 1;
+    while t > 0 {
+        t -= 1;
+        walk[t] = next[t * 64 + walk[t + 1] as usize];
     }
 }
 
@@ -43,17 +50,21 @@ fn seen_before(walk: &[u8], high: usize) -> Option<usize>
     None
 }
 
-// The first record that comes again: 65 records below 64 cannot all differ.
-pub fn find_repeat(walk: &[u8]) -> Span
-    requires { ⌜ (length (now walk) ≡ 65) × ((j : ℕ) → j ≤ 64 → getD (now walk) j 0 < 64) ⌝ }
-    ensures { λ r. ⌜ Repeat (now (walk .entry)) (r .low) (r .high) ⌝ }
+// The first record that comes again on the walk from the place `top` down. There is one where top is 64, since 65 records
+// below 64 cannot all differ.
+pub fn find_repeat(walk: &[u8], top: usize) -> Option<Span>
+    requires { ⌜ (length (now walk) ≡ 65) × (top ≤ 64) × ((j : ℕ) → j ≤ top → getD (now walk) j 0 < 64) ⌝ }
+    ensures { λ r. ⌜ BySome r (top < 64) (λ s. Repeat (now (walk .entry)) (s .low) (s .high) × (s .high ≤ top)) ⌝ }
 {
-    for high in 0..65 {
+    for high in 0..top + 1 {
         if let Some(low) = seen_before(walk, high) {
-            return Span { low, high };
+            return Some(Span { low, high });
         }
     }
-    unreachable()
+    if top >= 64 {
+        unreachable();
+    }
+    None
 }
 
 fn smaller(walk: &[u8], a: usize, b: usize) -> usize

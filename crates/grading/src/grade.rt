@@ -9,15 +9,12 @@ ghost use Rattle.model.specs.Views.{View};
 ghost use Rattle.model.specs.declared.thresholds.Thresholds.{Thresholds};
 ghost use Rattle.sheet.specs.Views.{view-of};
 ghost use Rattle.paths.specs.Bests.{Best, Forbids};
-ghost use Rattle.grading.specs.Relaxing.{Costs};
-ghost use Rattle.grading.specs.Problems.{Spells, Copied};
+ghost use Rattle.grading.specs.Problems.{Costs, Spells, Copied};
 ghost use Rattle.grading.specs.Outcomes.{memory as brought, enough, suffices, Solved, Grades};
-use crate::descent::find_repeat;
-use crate::descent::walk_down;
 use crate::descent::write_ring;
 use crate::graph::read;
-use crate::relax::Problem;
-use crate::relax::relax;
+use crate::problem::Problem;
+use crate::settle::settle;
 use model::bits::has_bit;
 use model::decline::Decline;
 use model::thresholds::Thresholds;
@@ -65,19 +62,15 @@ fn solve<V: Scale>(
     let (old, rest) = values.split_at_mut(64);
     let (new, _) = rest.split_at_mut(64);
     let (next, _) = bytes.split_at_mut(4096);
-    match relax(problem, old, new, next) {
+    let mut walk = [0; 65];
+    match settle(problem, old, new, next, &mut walk) {
         None => {
             copy_values(problem.graph.standing, old, grades);
             Ok(())
         }
-        Some(start) => {
-            let mut walk = [0; 65];
-            walk_down(problem, next, start, &mut walk);
-            let span = find_repeat(&walk);
-            Err(Decline::Forbidden {
-                ring: write_ring(&walk, span, ring),
-            })
-        }
+        Some(span) => Err(Decline::Forbidden {
+            ring: write_ring(&walk, span, ring),
+        }),
     }
 }
 

@@ -3,4 +3,6 @@ mod descent;
 pub mod grade;
 mod graph;
 pub mod kinds;
+mod problem;
 mod relax;
+mod settle;

@@ -1,46 +1,20 @@
-// Bellman and Ford's relaxation over a graph, on any scale.
+// Bellman and Ford's relaxation, one round of it, on any scale.
 ghost use mathlib.Core.Path.{_≡_};
-ghost use Prim.Native.Nat.{ℕ, _≤_, _<_};
+ghost use Prim.Native.Nat.{ℕ, _<_};
 ghost use lib.ListN.{length};
 ghost use Rattle.std.specs.Options.{Cases as BySome};
-ghost use Rattle.grading.specs.Relaxing.{at, problem-steps, Costs, Ready, Tried, Relaxed, Rounded, No-fall, Fall, Settled, Unsettled};
-use crate::graph::Graph;
-use model::bits::has_bit;
+ghost use Rattle.grading.specs.Problems.{at, problem-steps, Ready};
+ghost use Rattle.grading.specs.Relaxing.{Tried, Relaxed, Rounded, No-fall, Fall};
+use crate::problem::Problem;
+use crate::problem::cost_of;
+use crate::problem::has_step;
 use scale::scale::Scale;
-
-// A graph and what its marks and its hops are worth.
-#[derive(Clone, Copy)]
-pub struct Problem<V> {
-    pub graph: Graph,
-    pub mark: V,
-    pub hop: V,
-}
 
 // The least value of a record so far, and the record that it is reached by: 64 for none.
 #[derive(Clone, Copy)]
 pub struct Reached<V> {
     pub least: V,
     pub next: u8,
-}
-
-// Whether a mark or a hop leads from u to v.
-fn has_step<V: Scale>(problem: &Problem<V>, u: usize, v: usize) -> bool
-    requires { ⌜ u < 64 ⌝ }
-    ensures { λ r. ⌜ r ≡ problem-steps (now (problem .entry)) .has u v ⌝ }
-{
-    has_bit(problem.graph.marks[u], v) | has_bit(problem.graph.hops[u], v)
-}
-
-// The value of a step from u to v: the mark's where there is one, or else the hop's.
-fn cost_of<V: Scale>(problem: &Problem<V>, u: usize, v: usize) -> V
-    requires { ⌜ u < 64 ⌝ }
-    ensures { λ r. ⌜ r ≡ problem-steps (now (problem .entry)) .cost u v ⌝ }
-{
-    if has_bit(problem.graph.marks[u], v) {
-        problem.mark
-    } else {
-        problem.hop
-    }
 }
 
 // The value of the step from u to v, and then of `from` at v.
@@ -90,7 +64,7 @@ fn relax_record<V: Scale>(problem: &Problem<V>, from: &[V], u: usize) -> Reached
 }
 
 // One round: every record is relaxed from `from` to `to`, and `next` says what it is reached by.
-fn relax_round<V: Scale>(problem: &Problem<V>, from: &[V], to: &mut [V], next: &mut [u8])
+pub fn relax_round<V: Scale>(problem: &Problem<V>, from: &[V], to: &mut [V], next: &mut [u8])
     requires { ⌜ (length (now to) ≡ 64) × (length (now next) ≡ 64) × Ready V·Scale (now problem) (now from) ⌝ }
     ensures { λ _. ⌜ Rounded V·Scale (problem-steps (now (problem .entry))) (at V·Scale (now (from .entry))) 64 (now (to .exit)) (now (next .exit)) ⌝ }
 {
@@ -101,7 +75,7 @@ fn relax_round<V: Scale>(problem: &Problem<V>, from: &[V], to: &mut [V], next: &
     }
 }
 
-fn clear<V: Scale>(row: &mut [V])
+pub fn clear<V: Scale>(row: &mut [V])
     ensures { λ _. ⌜ ((u : ℕ) → u < length (now (row .entry)) → at V·Scale (now (row .exit)) u ≡ V·Scale .nothing) ⌝ }
 {
     for x in row.iter_mut() {
@@ -110,7 +84,7 @@ fn clear<V: Scale>(row: &mut [V])
 }
 
 // The first record at which `new` is below `old`.
-fn first_fall<V: Scale>(old: &[V], new: &[V]) -> Option<usize>
+pub fn first_fall<V: Scale>(old: &[V], new: &[V]) -> Option<usize>
     requires { ⌜ (length (now old) ≡ 64) × (length (now new) ≡ 64) ⌝ }
     ensures { λ r. ⌜ BySome r (No-fall V·Scale 64 (now (old .entry)) (now (new .entry))) (λ u. Fall V·Scale (now (old .entry)) (now (new .entry)) u) ⌝ }
 {
@@ -120,28 +94,4 @@ fn first_fall<V: Scale>(old: &[V], new: &[V]) -> Option<usize>
         }
     }
     None
-}
-
-// Relaxes until a round changes nothing, at most 64 times. None: `old` meets every step.
-// Some(u): the 64th round is still below the one before at u.
-pub fn relax<V: Scale>(
-    problem: &Problem<V>,
-    old: &mut [V],
-    new: &mut [V],
-    next: &mut [u8],
-) -> Option<usize>
-    requires { ⌜ (length (now old) ≡ 64) × (length (now new) ≡ 64) × (length (now next) ≡ 4096) × Costs V·Scale (now problem) ⌝ }
-    ensures { λ r. ⌜ BySome r (Settled V·Scale (problem-steps (now (problem .entry))) (at V·Scale (now (old .exit)))) (λ u. Unsettled V·Scale (problem-steps (now (problem .entry))) (now (next .exit)) u) ⌝ }
-{
-    clear(old);
-    let mut last = 0;
-    for k in 0..64 {
-        relax_round(problem, old, new, &mut next[k * 64..k * 64 + 64]);
-        match first_fall(old, new) {
-            None => return None,
-            Some(u) => last = u,
-        }
-        old.copy_from_slice(new);
-    }
-    Some(last)
 }

@@ -18,26 +18,27 @@ use Rattle.paths.specs.Descents.{Falls, Down, Walked, Repeat, Loop}
 use Rattle.paths.proofs.Layers.{fell, fell-again, ring-below, down}
 
 module _ {V : Type 0} (s : Ghosts V) (laws : Lawful s) (steps : Steps V) where
-  pub walk-start : (ys : List ℕ) (start : ℕ) → length ys ≡ 65 → start < 64 → Falls s steps 63 start → Walked s steps (set ys 64 start) 64
-  walk-start ys start len low falls =
-      let here : getD (set ys 64 start) 64 0 ≡ start = getD-set-same ys 64 start 0 (omega arith) in
+  -- the walk from `start`, at which the layer n + 1 is below the layer n
+  pub walk-start : (ys : List ℕ) (n start : ℕ) → length ys ≡ 65 → n < 64 → start < 64 → Falls s steps n start → Walked s steps (set ys (n + 1) start) (n + 1) (n + 1)
+  walk-start ys n start len room low falls =
+      let here : getD (set ys (n + 1) start) (n + 1) 0 ≡ start = getD-set-same ys (n + 1) start 0 (omega arith) in
       record {
-        top = omega arith;
-        nodes = λ j l u. let e : j ≡ 64 = omega arith in subst (λ (i : ℕ). getD (set ys 64 start) i 0 < 64) (sym e) (rw here low);
-        falls = λ k e. let k-is : k ≡ 63 = omega arith in subst (λ (i : ℕ). Falls s steps i (getD (set ys 64 start) 64 0)) (sym k-is) (subst (Falls s steps 63) (sym here) falls);
+        under = omega arith;
+        nodes = λ j l u. let e : j ≡ n + 1 = omega arith in subst (λ (i : ℕ). getD (set ys (n + 1) start) i 0 < 64) (sym e) (rw here low);
+        falls = λ k e. let k-is : k ≡ n = omega arith in subst (λ (i : ℕ). Falls s steps i (getD (set ys (n + 1) start) (n + 1) 0)) (sym k-is) (subst (Falls s steps n) (sym here) falls);
         down = λ j l u. absurd (omega arith);
       }
 
   -- one step further down: to the node that the layer was reached by, where the layer below fell too
-  walk-down : (ys : List ℕ) (k v : ℕ) → length ys ≡ 65 → Walked s steps ys (suc k) → v ≡ chosen s steps (level s steps 64 k) (getD ys (suc k) 0) 64 → Walked s steps (set ys k v) k
-  walk-down ys k v len w v-is =
+  walk-down : (ys : List ℕ) (top k v : ℕ) → length ys ≡ 65 → top ≤ 64 → Walked s steps ys top (suc k) → v ≡ chosen s steps (level s steps 64 k) (getD ys (suc k) 0) 64 → Walked s steps (set ys k v) top k
+  walk-down ys top k v len room w v-is =
       let lt : Falls s steps k (getD ys (suc k) 0) = w .falls k refl in
       let step = rw (← v-is) at (fell s laws steps 64 k (getD ys (suc k) 0) lt) in
-      let tops : suc k ≤ 64 = w .top in
+      let tops : suc k ≤ top = w .under in
       let here : getD (set ys k v) k 0 ≡ v = getD-set-same ys k v 0 (omega arith) in
       let other : (j : ℕ) → k < j → getD (set ys k v) j 0 ≡ getD ys j 0 = λ j l. getD-set-other ys k j v 0 (omega arith) in
       record {
-        top = omega arith;
+        under = omega arith;
         nodes = λ j l u. ⊎-elim
             (λ (e : j ≡ k). subst (λ (i : ℕ). getD (set ys k v) i 0 < 64) (sym e) (rw here (step .0)))
             (λ (n : j ≡ k → ⊥). let l′ : k < j = omega arith in rw (other j l′) (w .nodes j l′ u))
@@ -56,18 +57,17 @@ module _ {V : Type 0} (s : Ghosts V) (laws : Lawful s) (steps : Steps V) where
           fell-again s laws steps 64 i (getD ys (suc k) 0) v (subst P e (w .falls k refl)) l is (subst Q e reached)
 
   -- one turn of the loop, in which k is t - 1 and the nodes of layer k stand from the place 64 k on
-  pub walk-more : (ys ns : List ℕ) (t k : ℕ) → t ≡ suc k → length ys ≡ 65 → Walked s steps ys t
-      → ((j : ℕ) → j < 64 → (u : ℕ) → u < 64 → getD ns (j * 64 + u) 0 ≡ chosen s steps (level s steps 64 j) u 64)
-      → Walked s steps (set ys k (getD ns (k * 64 + getD ys (k + 1) 0) 0)) k
-  walk-more ys ns t k e len w next =
-      let w′ : Walked s steps ys (suc k) = subst (Walked s steps ys) e w in
-      let tops : suc k ≤ 64 = w′ .top in
-      rw (add-one k) (walk-down ys k (getD ns (k * 64 + getD ys (suc k) 0) 0) len w′ (next k (omega arith) (getD ys (suc k) 0) (w′ .nodes (suc k) (omega arith) (omega arith))))
+  pub walk-more : (ys ns : List ℕ) (top t k : ℕ) → t ≡ suc k → length ys ≡ 65 → top ≤ 64 → Walked s steps ys top t
+      → ((j : ℕ) → j < top → (u : ℕ) → u < 64 → getD ns (j * 64 + u) 0 ≡ chosen s steps (level s steps 64 j) u 64)
+      → Walked s steps (set ys k (getD ns (k * 64 + getD ys (k + 1) 0) 0)) top k
+  walk-more ys ns top t k e len room w next =
+      let w′ : Walked s steps ys top (suc k) = subst (Walked s steps ys top) e w in
+      let tops : suc k ≤ top = w′ .under in
+      rw (add-one k) (walk-down ys top k (getD ns (k * 64 + getD ys (suc k) 0) 0) len room w′ (next k (omega arith) (getD ys (suc k) 0) (w′ .nodes (suc k) (omega arith) (omega arith))))
 
-  pub loop-made : (ys : List ℕ) (low high : ℕ) → Walked s steps ys 0 → Repeat ys low high → Loop s steps ys low high
-  loop-made ys low high w f =
+  pub loop-made : (ys : List ℕ) (top low high : ℕ) → Walked s steps ys top 0 → Repeat ys low high → high ≤ top → Loop s steps ys low high
+  loop-made ys top low high w f room =
       let f0 : low < high = f .order in
-      let f1 : high ≤ 64 = f .within in
       let high-is : low + suc (high - low - 1) ≡ high = omega arith in
       let gap-is : suc (high - low - 1) ≡ high - low = omega arith in
       record {

@@ -19,12 +19,12 @@ Down s steps j a b = (steps .has a b ≡ true)
     × (level s steps 64 (suc j) a ≡ s .plus (steps .cost a b) (level s steps 64 j b))
     × Falls s steps j a
 
--- the places of ys from t up to 64 are the nodes of a walk down from the layer 64 to the layer t
-pub record Walked {V : Type 0} (s : Ghosts V) (steps : Steps V) (ys : List ℕ) (t : ℕ) : Type 0 where
-  pub top : t ≤ 64
-  pub nodes : (j : ℕ) → t ≤ j → j ≤ 64 → getD ys j 0 < 64
+-- the places of ys from t up to top are the nodes of a walk down from the layer top to the layer t, and the layer t fell too
+pub record Walked {V : Type 0} (s : Ghosts V) (steps : Steps V) (ys : List ℕ) (top t : ℕ) : Type 0 where
+  pub under : t ≤ top
+  pub nodes : (j : ℕ) → t ≤ j → j ≤ top → getD ys j 0 < 64
   pub falls : (k : ℕ) → t ≡ suc k → Falls s steps k (getD ys t 0)
-  pub down : (j : ℕ) → t ≤ j → j < 64 → Down s steps j (getD ys (suc j) 0) (getD ys j 0)
+  pub down : (j : ℕ) → t ≤ j → j < top → Down s steps j (getD ys (suc j) 0) (getD ys j 0)
 
 -- from the place high of ys down to the place low: one node at both ends, all others different
 pub record Repeat (ys : List ℕ) (low high : ℕ) : Type 0 where

@@ -1,6 +1,6 @@
 use mathlib.Core.Path.{_≡_}
 use Prim.Native.Nat.{ℕ, _<_}
-use Rattle.grading.specs.Relaxing.{at}
+use Rattle.grading.specs.Problems.{at}
 use Rattle.grading.proofs.relax.clear.Given as given
 
 abbrev pub Inv-loop-x : given.InvT-loop-x

@@ -3,7 +3,8 @@ use Prim.Native.Nat.{ℕ, _<_}
 use native.Mathlib.Omega.{arith}
 use lib.ListN.{length}
 use Rattle.std.proofs.shelf.Lists.{getD-read}
-use Rattle.grading.specs.Relaxing.{at, problem-steps, Relaxed}
+use Rattle.grading.specs.Problems.{at, problem-steps}
+use Rattle.grading.specs.Relaxing.{Relaxed}
 use Rattle.grading.proofs.Rounds.{relaxed-none, relaxed-more}
 use Rattle.grading.proofs.relax.relax_record.Needs as need
 

@@ -1,4 +1,5 @@
-use Rattle.grading.specs.Relaxing.{at, problem-steps, Relaxed}
+use Rattle.grading.specs.Problems.{at, problem-steps}
+use Rattle.grading.specs.Relaxing.{Relaxed}
 use Rattle.grading.proofs.relax.relax_record.Given as given
 
 abbrev pub Inv-loop-v : given.InvT-loop-v

@@ -2,7 +2,8 @@ use mathlib.Core.Path.{_≡_, subst}
 use Prim.Native.Nat.{ℕ, _<_}
 use native.Mathlib.Omega.{arith}
 use lib.ListN.{length}
-use Rattle.grading.specs.Relaxing.{at, problem-steps, Rounded}
+use Rattle.grading.specs.Problems.{at, problem-steps}
+use Rattle.grading.specs.Relaxing.{Rounded}
 use Rattle.grading.proofs.Rounds.{rounded-more}
 use Rattle.grading.proofs.relax.relax_round.Needs as need
 

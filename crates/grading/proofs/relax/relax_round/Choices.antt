@@ -1,4 +1,5 @@
-use Rattle.grading.specs.Relaxing.{at, problem-steps, Rounded}
+use Rattle.grading.specs.Problems.{at, problem-steps}
+use Rattle.grading.specs.Relaxing.{Rounded}
 use Rattle.grading.proofs.relax.relax_round.Given as given
 
 abbrev pub Inv-loop-u : given.InvT-loop-u

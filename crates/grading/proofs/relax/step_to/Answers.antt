@@ -3,7 +3,7 @@ use Prim.Native.Nat.{_<_}
 use native.Mathlib.Omega.{arith}
 use lib.ListN.{length}
 use Rattle.std.proofs.shelf.Lists.{getD-read}
-use Rattle.grading.specs.Relaxing.{at, problem-steps}
+use Rattle.grading.specs.Problems.{at, problem-steps}
 use Rattle.grading.proofs.Rounds.{cost-extent}
 use Rattle.grading.proofs.relax.step_to.Needs as need
 
