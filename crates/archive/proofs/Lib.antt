@@ -1,3 +1,4 @@
 pub mod Entries
 pub mod Telling
 pub mod Runs
+pub mod Plainly

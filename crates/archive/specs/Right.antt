@@ -3,6 +3,8 @@ use mathlib.Core.Path.{_≡_}
 use mathlib.Core.List.{List}
 use Prim.Native.Nat.{ℕ, _<_}
 use lib.ListN.{length, getD, take}
+use Rattle.std.specs.declared.result.Result.{Result}
+use Rattle.std.specs.declared.result.Result.the-variants.{Ok, Err}
 use Rattle.model.specs.declared.decline.Decline.{Decline}
 use Rattle.model.specs.Refusals.{number-of}
 use Rattle.sheet.specs.declared.meaning.Sheet.{Ghosts}
@@ -15,6 +17,11 @@ use Rattle.archive.specs.declared.answer.Answer.{Answer}
 use Rattle.archive.specs.declared.answer.Answer.the-variants.{Taken, Declined}
 use Rattle.archive.specs.Told.{Loose-told, Strict-told, Unit-told}
 use Rattle.archive.specs.Runs.{next, run}
+
+-- the answer that has no more to tell than a result does
+abbrev pub Tells : {X : Type 0} → Result X Decline → Answer → Type 0
+Tells (Ok x) a = a ≡ Taken
+Tells (Err d) a = a ≡ Declined d
 
 -- the answer to a call whose first failed check is `number`
 pub data Plain (number : ℕ) : Answer → Type 0 where

@@ -2,10 +2,9 @@
 ghost use mathlib.Core.Path.{_≡_};
 ghost use Rattle.std.specs.Of.Vec.{vec-items};
 ghost use Rattle.std.specs.Vec.{made};
-ghost use Rattle.model.specs.Refusals.{answer-number};
 ghost use Rattle.sheet.specs.Views.{meaning-of};
 ghost use Rattle.archive.specs.Runs.{next};
-ghost use Rattle.archive.specs.Right.{Plain, Right, Replayed};
+ghost use Rattle.archive.specs.Right.{Tells, Right, Replayed};
 use crate::answer::Answer;
 use crate::call::Call;
 use crate::grades::loose_answer;
@@ -17,7 +16,7 @@ use std::alloc::AllocError;
 use std::alloc::Global;
 
 fn plain(r: Result<(), Decline>) -> Answer
-    ensures { λ x. ⌜ Plain (answer-number r) x ⌝ }
+    ensures { λ x. ⌜ Tells r x ⌝ }
 {
     match r {
         Ok(()) => Answer::Taken,

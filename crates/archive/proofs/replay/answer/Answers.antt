@@ -1,11 +1,11 @@
 use mathlib.Core.Path.{_≡_, refl, sym, ap, _∙_, subst}
-use Prim.Native.Nat.{ℕ}
 use Rattle.std.specs.Vec.{made}
 use Rattle.model.specs.declared.decline.Decline.the-variants.{WrongLine}
 use Rattle.sheet.specs.Views.{meaning-of}
 use Rattle.archive.specs.declared.call.Call.{Call}
 use Rattle.archive.specs.Runs.{next}
-use Rattle.archive.specs.Right.{Plain, declined, Right}
+use Rattle.archive.specs.Right.{declined, Right}
+use Rattle.archive.proofs.Plainly.{plainly}
 use Rattle.archive.proofs.replay.answer.Needs as need
 
 pub returns-in-Enter : need.returns-in-Enter
@@ -13,7 +13,7 @@ returns-in-Enter g c =
     let m = meaning-of (g .S·Sheet) (c .args .sheet .now) in
     record {
       meaning = c .enter .ensures .meaning ∙ ap (next m) (sym (c .in-Enter .is));
-      right = subst (λ (k : Call). Right m k (c .plain .result)) (sym (c .in-Enter .is)) (subst (λ (n : ℕ). Plain n (c .plain .result)) (c .enter .ensures .answer) (c .plain .ensures));
+      right = subst (λ (k : Call). Right m k (c .plain .result)) (sym (c .in-Enter .is)) (plainly (c .enter .result) (c .enter .ensures .answer) (c .plain .ensures));
     }
 
 pub returns-in-Mark : need.returns-in-Mark
@@ -21,7 +21,7 @@ returns-in-Mark g c =
     let m = meaning-of (g .S·Sheet) (c .args .sheet .now) in
     record {
       meaning = c .mark .ensures .meaning ∙ ap (next m) (sym (c .in-Mark .is));
-      right = subst (λ (k : Call). Right m k (c .plain-in-Mark .result)) (sym (c .in-Mark .is)) (subst (λ (n : ℕ). Plain n (c .plain-in-Mark .result)) (c .mark .ensures .answer) (c .plain-in-Mark .ensures));
+      right = subst (λ (k : Call). Right m k (c .plain-in-Mark .result)) (sym (c .in-Mark .is)) (plainly (c .mark .result) (c .mark .ensures .answer) (c .plain-in-Mark .ensures));
     }
 
 pub returns-in-Strike : need.returns-in-Strike
@@ -29,7 +29,7 @@ returns-in-Strike g c =
     let m = meaning-of (g .S·Sheet) (c .args .sheet .now) in
     record {
       meaning = c .strike .ensures .meaning ∙ ap (next m) (sym (c .in-Strike .is));
-      right = subst (λ (k : Call). Right m k (c .plain-in-Strike .result)) (sym (c .in-Strike .is)) (subst (λ (n : ℕ). Plain n (c .plain-in-Strike .result)) (c .strike .ensures .answer) (c .plain-in-Strike .ensures));
+      right = subst (λ (k : Call). Right m k (c .plain-in-Strike .result)) (sym (c .in-Strike .is)) (plainly (c .strike .result) (c .strike .ensures .answer) (c .plain-in-Strike .ensures));
     }
 
 pub returns-in-Loose : need.returns-in-Loose
