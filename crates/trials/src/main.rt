@@ -1,6 +1,7 @@
 // Runs scripts that go to the edges of the rules, and shows each with its answers.
 #[cfg(test)]
 mod tests;
+
 use script::run::run;
 use std::io;
 use std::io::Write;
