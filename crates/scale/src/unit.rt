@@ -33,7 +33,7 @@ pub impl Scale for Unit as UnitScale {
     }
 
     fn hop(_thresholds: Thresholds) -> Unit {
-        Unit { value: 0 }
+        Unit::nothing()
     }
 
     fn sum(self, other: Unit) -> Unit {

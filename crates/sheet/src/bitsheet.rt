@@ -2,7 +2,7 @@
 ghost use mathlib.Core.Path.{_≡_};
 ghost use mathlib.Core.Bool.{true};
 ghost use Prim.Native.Nat.{_<_};
-ghost use lib.ListN.{length, getD, set};
+ghost use lib.ListN.{length, getD, set, replicate};
 ghost use Rattle.model.specs.Sets.{has, put};
 ghost use Rattle.sheet.specs.Meanings.{pairs, empty};
 ghost use Rattle.sheet.specs.Rows.{row-states, row-marks, ones-in, rows-meaning, Irreflexive, Present-from, Present-to};
@@ -22,6 +22,16 @@ struct Rows {
 }
 
 impl Rows {
+    fn empty() -> Rows
+        ensures present { λ r. ⌜ r .present ≡ 0 ⌝ }
+        ensures rows { λ r. ⌜ r .rows ≡ replicate 64 0 ⌝ }
+    {
+        Rows {
+            present: 0,
+            rows: [0; 64],
+        }
+    }
+
     fn row(&self, u: u8) -> u64
         requires { ⌜ u < 64 ⌝ }
         ensures { λ r. ⌜ r ≡ getD (now (self .entry) .rows) u 0 ⌝ }
@@ -77,10 +87,7 @@ impl BitSheet {
         ensures { λ r. ⌜ rows-meaning (r .table .present) (r .table .rows) ≡ empty 4032 ⌝ }
     {
         BitSheet {
-            table: Rows {
-                present: 0,
-                rows: [0; 64],
-            },
+            table: Rows::empty(),
         }
     }
 }
