@@ -12,7 +12,6 @@ use Rattle.model.specs.Refusals.{number-of, answer-number}
 use Rattle.sheet.specs.declared.state.State.{State}
 use Rattle.sheet.specs.declared.state.State.the-variants.{Absent, Standing, Aside}
 use Rattle.sheet.specs.States.{is-absent, is-aside}
-use Rattle.sheet.specs.Meanings.{Meaning}
 use Rattle.sheet.specs.Checks.{pair-check}
 use Rattle.sheet.specs.Calls.{after-check, Called}
 
@@ -37,17 +36,17 @@ number-some DoesNotHold e = omega arith
 number-some WrongLine e = omega arith
 
 -- a call that is declined changes nothing
-pub declined : (n : ℕ) (changed before : Meaning) → (n ≡ 0 → ⊥) → after-check n changed before ≡ before
+pub declined : {A : Type 0} (n : ℕ) (changed before : A) → (n ≡ 0 → ⊥) → after-check n changed before ≡ before
 declined zero changed before h = absurd (h refl)
 declined (suc n) changed before h = refl
 
 -- a call whose checks all pass does what it says
-pub call-taken : {number : ℕ} {before changed after : Meaning} (r : Result (Unit {0}) Decline)
+pub call-taken : {A : Type 0} {number : ℕ} {before changed after : A} (r : Result (Unit {0}) Decline)
     → answer-number r ≡ 0 → number ≡ 0 → after ≡ changed → Called number before changed after r
 call-taken {before = before} {changed = changed} r a e h = record { answer = a ∙ sym e; meaning = h ∙ ap (λ (n : ℕ). after-check n changed before) (sym e) }
 
 -- a call that answers the refusal d, and changes nothing, does what it says
-pub call-declined : {number : ℕ} {before changed : Meaning} (r : Result (Unit {0}) Decline) (d : Decline)
+pub call-declined : {A : Type 0} {number : ℕ} {before changed : A} (r : Result (Unit {0}) Decline) (d : Decline)
     → answer-number r ≡ number-of d → number-of d ≡ number → Called number before changed before r
 call-declined {number = number} {before = before} {changed = changed} r d a e =
     record { answer = a ∙ e; meaning = sym (declined number changed before (λ z. number-some d (e ∙ z))) }
@@ -98,6 +97,6 @@ pub low-right : {a b : State} (u v : ℕ) → Clear u v a b → v < 64
 low-right u v c = omega (arith, ltb-false 63 v (or-parts (ltb 63 u) (ltb 63 v) (c .low) .1))
 
 -- a call on a pair that fails a check
-pub pair-declined : {before changed : Meaning} (u v : ℕ) (a b : State) (k : ℕ) (r : Result (Unit {0}) Decline) (d : Decline)
+pub pair-declined : {A : Type 0} {before changed : A} (u v : ℕ) (a b : State) (k : ℕ) (r : Result (Unit {0}) Decline) (d : Decline)
     → answer-number r ≡ number-of d → number-of d ≡ pair-check u v a b 0 → Called (pair-check u v a b k) before changed before r
 pair-declined u v a b k r d said failed = call-declined r d said (pair-shut u v a b (number-of d) k failed (number-some d))

@@ -28,13 +28,13 @@ marked m u v = record { states = m .states; marks = put-mark (m .marks) u v true
 abbrev pub struck : Meaning → ℕ → ℕ → Meaning
 struck m u v = record { states = m .states; marks = put-mark (m .marks) u v false; held = m .held - 1; capacity = m .capacity }
 
--- the meaning after a call whose first failed check is `number`: a declined call changes nothing
-abbrev pub after-check : ℕ → Meaning → Meaning → Meaning
+-- what is there after a call whose first failed check is `number`: a declined call changes nothing
+abbrev pub after-check : {A : Type 0} → ℕ → A → A → A
 after-check zero changed before = changed
 after-check (suc k) changed before = before
 
 -- a call answers the number of its first failed check, and changes the meaning only if there is none
-pub record Called (number : ℕ) (before changed after : Meaning) (r : Result (Unit {0}) Decline) : Type 0 where
+pub record Called {A : Type 0} (number : ℕ) (before changed after : A) (r : Result (Unit {0}) Decline) : Type 0 where
   pub answer : answer-number r ≡ number
   pub meaning : after ≡ after-check number changed before
 

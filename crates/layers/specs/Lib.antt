@@ -1,0 +1,3 @@
+pub mod Turns
+pub mod Folders
+pub mod FiledIn

@@ -1,0 +1,3 @@
+// Layers over a sheet of any make, each of which is a sheet again.
+pub mod folder;
+pub mod turn;
