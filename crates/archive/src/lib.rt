@@ -1,4 +1,6 @@
 // Calls on a sheet of any make, and their answers.
+#![tactic(auto)]
+
 pub mod answer;
 pub mod call;
 mod grades;

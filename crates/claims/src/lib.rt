@@ -1,2 +1,4 @@
 // What a release claims, and whether it holds.
+#![tactic(auto)]
+
 pub mod claim;

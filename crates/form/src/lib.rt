@@ -1,1 +1,3 @@
 // The form of a release.
+#![tactic(auto)]
+

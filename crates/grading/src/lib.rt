@@ -1,4 +1,6 @@
 // Grading what stands on a sheet: on any scale, loose, strict and unit grading in whole numbers, and the least ratio.
+#![tactic(auto)]
+
 mod count;
 mod descent;
 pub mod grade;

@@ -1,4 +1,6 @@
 // Reads a script from standard input and writes its answers.
+#![tactic(auto)]
+
 use script::run::run;
 use std::io;
 use std::io::{Read, Write};

@@ -1,4 +1,6 @@
 // The list sheet: up to 512 marks in a list, where the place of a struck mark is used again.
+#![tactic(auto)]
+
 ghost use Rattle.std.specs.Prelude.{◌≡◌, ◌≤◌};
 ghost use Rattle.sheet.specs.Meanings.{pairs, empty};
 ghost use Rattle.sheet.specs.Kept.{present_states, Irreflexive, PresentFrom, PresentTo};

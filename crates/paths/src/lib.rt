@@ -1,5 +1,7 @@
 // The mathematics of relaxation on any scale: layers, walks, and rings whose sum is below nothing.
 // No code but the functions that name its theorems.
+#![tactic(auto)]
+
 ghost use Rattle.paths.specs.Statements.{WalksBound, BelowForbids};
 
 use scale::scale::Scale;

@@ -1,4 +1,6 @@
 // Releases: the least ratio's finding as bytes.
+#![tactic(auto)]
+
 mod count;
 mod draft;
 mod sections;

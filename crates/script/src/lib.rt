@@ -1,4 +1,6 @@
 // Scripts: bytes to lines to calls, and answers to lines of bytes.
+#![tactic(auto)]
+
 mod find;
 pub mod lines;
 pub mod make;

@@ -1,4 +1,6 @@
 // Sheets: which records there are, and which pairs of them the judges marked.
+#![tactic(auto)]
+
 pub mod bitsheet;
 pub mod meaning;
 pub mod pair;

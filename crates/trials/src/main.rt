@@ -1,4 +1,6 @@
 // Runs scripts that go to the edges of the rules, and shows each with its answers.
+#![tactic(auto)]
+
 #[cfg(test)]
 mod tests;
 

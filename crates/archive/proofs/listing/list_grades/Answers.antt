@@ -16,7 +16,7 @@ loop-u-preserved g c =
     let within : c.loop-u.u < length c.args.grades.now = omega arith in
     let stands : c.stands.result ≡ is_standing (g.S.Sheet.states c.args.sheet.now c.loop-u.u) = c.stands.ensures ∙ ap is_standing c.state.ensures in
     let value : c.index-grades-u.result ≡ get_or c.args.grades.now c.loop-u.u none = get_or_read c.args.grades.now c.loop-u.u c.index-grades-u.result within c.index-grades-u.is none in
-    c.in-ok-push-if.ensures
+    c.in_ok-push_if.ensures
     ∙ ap₂ ◌++◌ c.loop-u.invariant (ap₂ (λ (b : Bool) z. entry b c.loop-u.u z) stands value)
     ∙ sym (listed_more (view_of g.S.Sheet c.args.sheet.now) (λ u. get_or c.args.grades.now u none) c.loop-u.u)
 

@@ -36,7 +36,7 @@ returns-in-Loose g c =
     let m = meaning_of g.S.Sheet c.args.sheet.now in
     record {
       meaning = ap (next m) (sym c.in-Loose.is);
-      right = subst (λ (k : Call). IfOk c.loose-answer.result (Right m k)) (sym c.in-Loose.is) c.loose-answer.ensures;
+      right = subst (λ (k : Call). IfOk c.loose_answer.result (Right m k)) (sym c.in-Loose.is) c.loose_answer.ensures;
     }
 
 pub returns-in-Strict : goal.returns-in-Strict
@@ -44,7 +44,7 @@ returns-in-Strict g c =
     let m = meaning_of g.S.Sheet c.args.sheet.now in
     record {
       meaning = ap (next m) (sym c.in-Strict.is);
-      right = subst (λ (k : Call). IfOk c.strict-answer.result (Right m k)) (sym c.in-Strict.is) c.strict-answer.ensures;
+      right = subst (λ (k : Call). IfOk c.strict_answer.result (Right m k)) (sym c.in-Strict.is) c.strict_answer.ensures;
     }
 
 pub returns-in-Unit : goal.returns-in-Unit
@@ -52,7 +52,7 @@ returns-in-Unit g c =
     let m = meaning_of g.S.Sheet c.args.sheet.now in
     record {
       meaning = ap (next m) (sym c.in-Unit.is);
-      right = subst (λ (k : Call). IfOk c.unit-answer.result (Right m k)) (sym c.in-Unit.is) c.unit-answer.ensures;
+      right = subst (λ (k : Call). IfOk c.unit_answer.result (Right m k)) (sym c.in-Unit.is) c.unit_answer.ensures;
     }
 
 pub returns-in-Wrong : goal.returns-in-Wrong

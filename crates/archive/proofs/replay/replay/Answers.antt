@@ -19,16 +19,16 @@ loop-call-preserved g c =
     let cs = c.args.calls.now in
     let call = get_or cs i (Enter 0) in
     let inv = c.loop-call.invariant in
-    let now = c.in-ok-given.ensures in
-    let put = c.in-ok-push.ensures in
+    let now = c.in_ok-given.ensures in
+    let put = c.in_ok-push.ensures in
     let xs = vec_items c.loop-call.answers in
     let ys = vec_items c.push.new.self in (
       now.meaning ∙ ap (λ (b : Meaning). next b call) inv.0 ∙ sym (run_more m cs i (Enter 0) c.loop-call-test.true),
       omega (arith, put.len, inv.1),
-      each_push (λ k x. Right (run m (take k cs)) (get_or cs k (Enter 0)) x) xs ys i c.in-ok-given.given Taken
+      each_push (λ k x. Right (run m (take k cs)) (get_or cs k (Enter 0)) x) xs ys i c.in_ok-given.given Taken
           (λ k h. put.places.0 k Taken (omega (arith, inv.1)))
           (ap (λ (n : ℕ). get_or ys n Taken) (sym inv.1) ∙ put.places.1 Taken refl)
-          (subst (λ (b : Meaning). Right b call c.in-ok-given.given) inv.0 now.right)
+          (subst (λ (b : Meaning). Right b call c.in_ok-given.given) inv.0 now.right)
           inv.2,
     )
 

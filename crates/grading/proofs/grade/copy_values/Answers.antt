@@ -6,7 +6,7 @@ pub loop-u-init : goal.loop-u-init
 loop-u-init g c = record { inside = λ u l h. absurd (omega arith); outside = λ u h. refl }
 
 pub loop-u-preserved : goal.loop-u-preserved
-loop-u-preserved g c = c.copy-if.ensures c.args.to.now c.loop-u.invariant
+loop-u-preserved g c = c.copy_if.ensures c.args.to.now c.loop-u.invariant
 
 pub returns : goal.returns
 returns g c =

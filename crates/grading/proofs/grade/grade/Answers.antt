@@ -13,8 +13,8 @@ returns-in-None g c =
     let t = c.args.thresholds in
     by_solving w t (Best s w t) s.nothing (Forbids s w t)
     (memory c.args.grades.now c.args.ring.now c.args.values.now c.args.bytes.now)
-    (memory c.solve-graph.new.grades c.solve-graph.new.ring c.solve-graph.new.values c.solve-graph.new.bytes)
-    (Ok tt) (sym c.if-not-is-enough.ensures) (sym c.if-not-are-allowed.ensures) (c.in-None.ensures w c.read-graph.ensures)
+    (memory c.solve_graph.new.grades c.solve_graph.new.ring c.solve_graph.new.values c.solve_graph.new.bytes)
+    (Ok tt) (sym c.if-not-is_enough.ensures) (sym c.if-not-are_allowed.ensures) (c.in-None.ensures w c.read-graph.ensures)
 
 pub returns-in-Some : goal.returns-in-Some
 returns-in-Some g c =
@@ -23,5 +23,5 @@ returns-in-Some g c =
     let t = c.args.thresholds in
     by_solving w t (Best s w t) s.nothing (Forbids s w t)
     (memory c.args.grades.now c.args.ring.now c.args.values.now c.args.bytes.now)
-    (memory c.solve-graph.new.grades c.solve-graph.new.ring c.solve-graph.new.values c.solve-graph.new.bytes)
-    (Err (Forbidden c.in-Some.k)) (sym c.if-not-is-enough.ensures) (sym c.if-not-are-allowed.ensures) (refl, c.in-Some.ensures w c.read-graph.ensures)
+    (memory c.solve_graph.new.grades c.solve_graph.new.ring c.solve_graph.new.values c.solve_graph.new.bytes)
+    (Err (Forbidden c.in-Some.k)) (sym c.if-not-is_enough.ensures) (sym c.if-not-are_allowed.ensures) (refl, c.in-Some.ensures w c.read-graph.ensures)

@@ -7,7 +7,7 @@ pub loop-v-init : goal.loop-v-init
 loop-v-init c = none_collected _
 
 pub loop-v-preserved : goal.loop-v-preserved
-loop-v-preserved c = c.collect-bit-row.ensures (unmarked_from c.args.standing c.args.marks.now c.args.u) (rw (c.both.ensures, c.unmarked.ensures)) c.loop-v.invariant
+loop-v-preserved c = c.collect_bit-row.ensures (unmarked_from c.args.standing c.args.marks.now c.args.u) (rw (c.both.ensures, c.unmarked.ensures)) c.loop-v.invariant
 
 pub returns : goal.returns
 returns c =

@@ -9,7 +9,7 @@ pub loop-v-init : goal.loop-v-init
 loop-v-init g c = none_collected _
 
 pub loop-v-preserved : goal.loop-v-preserved
-loop-v-preserved g c = c.collect-bit-row.ensures (is_mark (view_of g.S.Sheet c.args.sheet.now) c.args.u) c.is-marked.ensures c.loop-v.invariant
+loop-v-preserved g c = c.collect_bit-row.ensures (is_mark (view_of g.S.Sheet c.args.sheet.now) c.args.u) c.is_marked.ensures c.loop-v.invariant
 
 pub returns : goal.returns
 returns g c =

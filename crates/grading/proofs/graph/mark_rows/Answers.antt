@@ -8,7 +8,7 @@ pub loop-u-init : goal.loop-u-init
 loop-u-init g c = record { long = refl; each = λ u l. absurd (omega arith) }
 
 pub loop-u-preserved : goal.loop-u-preserved
-loop-u-preserved g c = rows_more (view_of g.S.Sheet c.args.sheet.now) c.loop-u.rows c.loop-u.u c.mark-row.result c.loop-u-test.true c.loop-u.invariant c.mark-row.ensures
+loop-u-preserved g c = rows_more (view_of g.S.Sheet c.args.sheet.now) c.loop-u.rows c.loop-u.u c.mark_row.result c.loop-u-test.true c.loop-u.invariant c.mark_row.ensures
 
 pub returns : goal.returns
 returns g c =

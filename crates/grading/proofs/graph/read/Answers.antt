@@ -11,8 +11,8 @@ pub loop-u-preserved : goal.loop-u-preserved
 loop-u-preserved g c =
     let low : c.loop-u.u < length c.loop-u.hops = omega (arith, c.loop-u.invariant.0) in (
       simp length-set c.loop-u.invariant.0,
-      each_more (λ u word. Collected (unmarked_from c.standing-row-standing.result c.mark-rows-marks.result u) 64 word) c.loop-u.hops c.loop-u.u c.hop-row.result low c.loop-u.invariant.1 c.hop-row.ensures,
+      each_more (λ u word. Collected (unmarked_from c.standing_row-standing.result c.mark_rows-marks.result u) 64 word) c.loop-u.hops c.loop-u.u c.hop_row.result low c.loop-u.invariant.1 c.hop_row.ensures,
     )
 
 pub returns : goal.returns
-returns g c = drawn (view_of g.S.Sheet c.args.sheet.now) c.standing-row-standing.result c.mark-rows-marks.result c.loop-u.hops c.standing-row-standing.ensures c.mark-rows-marks.ensures (λ u l. c.loop-u.invariant.1 u (omega arith))
+returns g c = drawn (view_of g.S.Sheet c.args.sheet.now) c.standing_row-standing.result c.mark_rows-marks.result c.loop-u.hops c.standing_row-standing.ensures c.mark_rows-marks.ensures (λ u l. c.loop-u.invariant.1 u (omega arith))

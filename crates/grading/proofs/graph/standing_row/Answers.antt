@@ -9,7 +9,7 @@ pub loop-u-init : goal.loop-u-init
 loop-u-init g c = none_collected _
 
 pub loop-u-preserved : goal.loop-u-preserved
-loop-u-preserved g c = c.collect-bit-row.ensures (view_of g.S.Sheet c.args.sheet.now).stands (c.stands.ensures ∙ ap is_standing c.state.ensures) c.loop-u.invariant
+loop-u-preserved g c = c.collect_bit-row.ensures (view_of g.S.Sheet c.args.sheet.now).stands (c.stands.ensures ∙ ap is_standing c.state.ensures) c.loop-u.invariant
 
 pub returns : goal.returns
 returns g c =

@@ -18,5 +18,5 @@ returns g c =
     (best_loose s whole_laws t (λ x. x.value) (whole_numbered t) w)
     (forbids_loosely s whole_laws t (λ x. x.value) (whole_numbered t) w)
     (memory c.args.grades.now c.args.ring.now c.args.values.now c.args.bytes.now)
-    (memory c.on-wholes.new.grades c.on-wholes.new.ring c.on-wholes.new.values c.on-wholes.new.bytes)
-    c.on-wholes.result c.on-wholes.ensures
+    (memory c.on_wholes.new.grades c.on_wholes.new.ring c.on_wholes.new.values c.on_wholes.new.bytes)
+    c.on_wholes.result c.on_wholes.ensures

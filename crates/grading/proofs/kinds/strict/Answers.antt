@@ -14,5 +14,5 @@ returns g c =
     let t = c.args.thresholds in
     outcome_so w t (Best s w t) (BestStrict w t) s.nothing (Forbids s w t) (ForbidsStrictly w t) (best_strict w t) (forbids_strictly w t)
     (memory c.args.grades.now c.args.ring.now c.args.values.now c.args.bytes.now)
-    (memory c.on-pairs.new.grades c.on-pairs.new.ring c.on-pairs.new.values c.on-pairs.new.bytes)
-    c.on-pairs.result c.on-pairs.ensures
+    (memory c.on_pairs.new.grades c.on_pairs.new.ring c.on_pairs.new.values c.on_pairs.new.bytes)
+    c.on_pairs.result c.on_pairs.ensures

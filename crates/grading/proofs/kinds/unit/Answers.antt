@@ -19,5 +19,5 @@ returns g c =
     (best_loose s unit_laws t (λ x. x.value) unit_numbered w)
     (forbids_loosely s unit_laws t (λ x. x.value) unit_numbered w)
     (memory c.args.grades.now c.args.ring.now c.args.values.now c.args.bytes.now)
-    (memory c.on-units.new.grades c.on-units.new.ring c.on-units.new.values c.on-units.new.bytes)
-    c.on-units.result c.on-units.ensures
+    (memory c.on_units.new.grades c.on_units.new.ring c.on_units.new.values c.on_units.new.bytes)
+    c.on_units.result c.on_units.ensures

@@ -10,8 +10,8 @@ pub returns : goal.returns
 returns g c =
     let w = view_of g.S.Sheet c.args.sheet.now in
     let before = memory c.args.grades.now c.args.ring.now c.args.values.now c.args.bytes.now in
-    let after = memory c.climb-best.new.grades c.copy-front.new.to c.climb-best.new.values c.climb-best.new.bytes in
+    let after = memory c.climb-best.new.grades c.copy_front.new.to c.climb-best.new.values c.climb-best.new.bytes in
     let room : 64 ≤ length c.climb-best.new.ring = omega arith in
     subst (RatioFound w before after) (sym c.answer.ensures)
-    (when_true (suffices before) _ _ (sym c.if-not-is-enough.ensures)
-    (answered w before after c.climb-best.new.ring c.climb-best.result room c.climb-best.ensures c.copy-front.ensures))
+    (when_true (suffices before) _ _ (sym c.if-not-is_enough.ensures)
+    (answered w before after c.climb-best.new.ring c.climb-best.result room c.climb-best.ensures c.copy_front.ensures))

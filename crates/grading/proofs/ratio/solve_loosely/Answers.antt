@@ -16,5 +16,5 @@ returns c w draws =
     (best_loose s whole_laws t (λ x. x.value) (whole_numbered t) w)
     (forbids_loosely s whole_laws t (λ x. x.value) (whole_numbered t) w)
     (memory c.args.grades.now c.args.ring.now c.args.values.now c.args.bytes.now)
-    (memory c.solve-graph.new.grades c.solve-graph.new.ring c.solve-graph.new.values c.solve-graph.new.bytes)
-    c.solve-graph.result (c.solve-graph.ensures w draws)
+    (memory c.solve_graph.new.grades c.solve_graph.new.ring c.solve_graph.new.values c.solve_graph.new.bytes)
+    c.solve_graph.result (c.solve_graph.ensures w draws)

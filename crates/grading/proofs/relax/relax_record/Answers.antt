@@ -13,7 +13,7 @@ loop-v-init g c =
     relaxed_none s (problem_steps c.args.problem.now) (at s c.args.from.now) c.args.u _ (get_or_read c.args.from.now c.args.u c.index-from-u.result within c.index-from-u.is s.nothing) refl
 
 pub loop-v-preserved : goal.loop-v-preserved
-loop-v-preserved g c = relaxed_more g.V.Scale (problem_steps c.args.problem.now) (at g.V.Scale c.args.from.now) c.args.u c.loop-v.v c.loop-v.best c.try-step-best.result c.loop-v.invariant c.try-step-best.ensures
+loop-v-preserved g c = relaxed_more g.V.Scale (problem_steps c.args.problem.now) (at g.V.Scale c.args.from.now) c.args.u c.loop-v.v c.loop-v.best c.try_step-best.result c.loop-v.invariant c.try_step-best.ensures
 
 pub returns : goal.returns
 returns g c =

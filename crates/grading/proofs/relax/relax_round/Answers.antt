@@ -11,7 +11,7 @@ pub loop-u-preserved : goal.loop-u-preserved
 loop-u-preserved g c =
     let in-to : c.loop-u.u < length c.loop-u.to = omega arith in
     let in-next : c.loop-u.u < length c.loop-u.next = omega arith in
-    rounded_more g.V.Scale (problem_steps c.args.problem.now) (at g.V.Scale c.args.from.now) c.loop-u.u c.loop-u.to c.loop-u.next c.relax-record-best.result in-to in-next c.loop-u.invariant c.relax-record-best.ensures
+    rounded_more g.V.Scale (problem_steps c.args.problem.now) (at g.V.Scale c.args.from.now) c.loop-u.u c.loop-u.to c.loop-u.next c.relax_record-best.result in-to in-next c.loop-u.invariant c.relax_record-best.ensures
 
 pub returns : goal.returns
 returns g c =

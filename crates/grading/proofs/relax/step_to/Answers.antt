@@ -12,6 +12,6 @@ returns g c =
     let long : length c.args.from.now ≡ 64 = c.requires.2.long in
     let within : c.args.v < length c.args.from.now = omega (arith, c.requires.1) in
     let value : c.index-from-v.result ≡ at s c.args.from.now c.args.v = get_or_read c.args.from.now c.args.v c.index-from-v.result within c.index-from-v.is s.nothing in
-    c.sum.ensures ∙ ap₂ s.sum c.cost-of.ensures value
+    c.sum.ensures ∙ ap₂ s.sum c.cost_of.ensures value
     ∙ g.met.V.Scale.lawful.exact ((problem_steps p).cost c.args.u c.args.v) (at s c.args.from.now c.args.v) 1 64
     (cost_extent s g.met.V.Scale.lawful p c.requires.2.costs c.args.u c.args.v) (c.requires.2.extents c.args.v c.requires.1) (omega arith)

@@ -3,8 +3,8 @@ use Rattle.paths.specs.Bests.{Forbids}
 use Rattle.grading.proofs.Spelling.{enough_parts, best_made, others_kept, forbids_shown}
 use Rattle.grading.proofs.solve.solve.Goals as goal
 
-pub write-ring-requires : goal.write-ring-requires
-write-ring-requires g c =
+pub write_ring-requires : goal.write_ring-requires
+write_ring-requires g c =
     let loop = c.in-Some.ensures in
     let room : 64 ≤ length c.args.ring.now = (enough_parts (length c.args.grades.now) (length c.args.ring.now) (length c.args.values.now) (length c.args.bytes.now) c.requires.0).ring_64 in
     (record { long = omega arith; order = loop.again.order; within = loop.again.within }, room)
@@ -15,8 +15,8 @@ returns-in-None g c w t spells =
     let laws = g.met.V.Scale.lawful in
     let p = c.args.problem.now in
     record {
-      grades = best_made s laws w t p spells c.settle.new.old c.args.grades.now c.copy-values.new.to c.in-None.ensures c.copy-values.ensures;
-      others = others_kept s laws w t p spells c.settle.new.old c.args.grades.now c.copy-values.new.to c.in-None.ensures c.copy-values.ensures;
+      grades = best_made s laws w t p spells c.settle.new.old c.args.grades.now c.copy_values.new.to c.in-None.ensures c.copy_values.ensures;
+      others = others_kept s laws w t p spells c.settle.new.old c.args.grades.now c.copy_values.new.to c.in-None.ensures c.copy_values.ensures;
       ring = refl;
     }
 
@@ -29,11 +29,11 @@ returns-in-Some g c w t spells =
     let low = c.in-Some.span.low in
     let high = c.in-Some.span.high in
     let top : c.in-Some.span.high ≤ 64 = loop.again.within in
-    let long : c.write-ring.result ≡ c.in-Some.span.high - c.in-Some.span.low = c.write-ring.ensures.long in
-    let room : 64 ≤ length c.write-ring.new.ring = omega (arith, (enough_parts (length c.args.grades.now) (length c.args.ring.now) (length c.args.values.now) (length c.args.bytes.now) c.requires.0).ring_64) in
+    let long : c.write_ring.result ≡ c.in-Some.span.high - c.in-Some.span.low = c.write_ring.ensures.long in
+    let room : 64 ≤ length c.write_ring.new.ring = omega (arith, (enough_parts (length c.args.grades.now) (length c.args.ring.now) (length c.args.values.now) (length c.args.bytes.now) c.requires.0).ring_64) in
     record {
       short = omega arith;
-      ring = subst (λ (k : ℕ). Forbids s w t (take k c.write-ring.new.ring)) (sym long) (forbids_shown s laws w t p spells c.settle.new.walk c.write-ring.new.ring low high loop c.write-ring.ensures.written room);
-      past = c.write-ring.ensures.kept;
+      ring = subst (λ (k : ℕ). Forbids s w t (take k c.write_ring.new.ring)) (sym long) (forbids_shown s laws w t p spells c.settle.new.walk c.write_ring.new.ring low high loop c.write_ring.ensures.written room);
+      past = c.write_ring.ensures.kept;
       grades = refl;
     }

@@ -4,8 +4,8 @@ use Rattle.listsheet.specs.Places.{times, list_marks}
 use Rattle.listsheet.specs.Listed.{times_none, marks_none}
 use Rattle.listsheet.proofs.ListSheet.new.Goals as goal
 
-pub invariant-of-result : goal.invariant-of-result
-invariant-of-result c =
+pub invariant_of-result : goal.invariant_of-result
+invariant_of-result c =
     let places = c.empty.result.places in
     let n = c.empty.result.used in
     let bare = ap (list_marks places) c.empty.ensures ∙ marks_none places in (

@@ -2,8 +2,8 @@ use Rattle.sheet.proofs.Keeping.{entered_keeps, enter_called}
 use Rattle.listsheet.specs.Places.{list_marks}
 use Rattle.listsheet.proofs.ListSheetSheet.enter.Goals as goal
 
-pub invariant-of-self : goal.invariant-of-self
-invariant-of-self c =
+pub invariant_of-self : goal.invariant_of-self
+invariant_of-self c =
     let old = c.args.self.now in (
       old.few,
       (

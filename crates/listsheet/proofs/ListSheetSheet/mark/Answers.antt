@@ -9,11 +9,11 @@ use Rattle.listsheet.proofs.ListSheetSheet.mark.Goals as goal
 use Rattle.listsheet.proofs.ListSheetSheet.mark.Goals.{After-push}
 
 -- a pair that fails a check
-pub returns-in-err-check-pair : goal.returns-in-err-check-pair
-returns-in-err-check-pair c =
+pub returns-in_err-check_pair : goal.returns-in_err-check_pair
+returns-in_err-check_pair c =
     let states = present_states c.args.self.now.present.set in
     pair_left c.args.u c.args.v (states c.args.u) (states c.args.v) _
-    c.from-residual.result c.in-err-check-pair.field-0.0 c.from-residual.ensures.1 c.in-err-check-pair.ensures
+    c.from_residual.result c.in_err-check_pair.field_0.0 c.from_residual.ensures.1 c.in_err-check_pair.ensures
 
 -- the list is not full, so there is a place after its marks
 room : (c : After-push) → let old = c.args.self.now.table in old.used < 512
@@ -27,12 +27,12 @@ written c =
     let new = c.push.new.self in
     let wrote = c.push.ensures in
     record {
-      clear = passed_clear old.present.set c.args.u c.args.v c.in-ok-check-pair.ensures;
+      clear = passed_clear old.present.set c.args.u c.args.v c.in_ok-check_pair.ensures;
       marks = marks_pushed old.table.places new.places old.table.used new.used c.args.u c.args.v wrote.places wrote.used (omega (arith, room c));
     }
 
-pub invariant-of-self : goal.invariant-of-self
-invariant-of-self c =
+pub invariant_of-self : goal.invariant_of-self
+invariant_of-self c =
     let old = c.args.self.now in
     let new = c.push.new.self in
     let wrote = c.push.ensures in (

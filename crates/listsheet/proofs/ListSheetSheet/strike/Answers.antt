@@ -8,11 +8,11 @@ use Rattle.listsheet.proofs.ListSheetSheet.strike.Goals as goal
 use Rattle.listsheet.proofs.ListSheetSheet.strike.Goals.{After-remove}
 
 -- a pair that fails a check
-pub returns-in-err-check-pair : goal.returns-in-err-check-pair
-returns-in-err-check-pair c =
+pub returns-in_err-check_pair : goal.returns-in_err-check_pair
+returns-in_err-check_pair c =
     let states = present_states c.args.self.now.present.set in
     pair_left c.args.u c.args.v (states c.args.u) (states c.args.v) _
-    c.from-residual.result c.in-err-check-pair.field-0.0 c.from-residual.ensures.1 c.in-err-check-pair.ensures
+    c.from_residual.result c.in_err-check_pair.field_0.0 c.from_residual.ensures.1 c.in_err-check_pair.ensures
 
 -- a pair that passes them, and is found: the last mark takes its place
 written : (c : After-remove) → let old = c.args.self.now in let new = c.remove.new.self in
@@ -23,13 +23,13 @@ written c =
     let wrote = c.remove.ensures in
     let found = c.in-Some.ensures in
     record {
-      clear = passed_clear old.present.set c.args.u c.args.v c.in-ok-check-pair.ensures;
+      clear = passed_clear old.present.set c.args.u c.args.v c.in_ok-check_pair.ensures;
       marks = marks_removed old.table.places new.places c.in-Some.k old.table.used new.used wrote.places wrote.used found.0 (omega (arith, found.0, old.few))
           c.args.u c.args.v found.1 old.once;
     }
 
-pub invariant-of-self : goal.invariant-of-self
-invariant-of-self c =
+pub invariant_of-self : goal.invariant_of-self
+invariant_of-self c =
     let old = c.args.self.now in
     let new = c.remove.new.self in
     let wrote = c.remove.ensures in

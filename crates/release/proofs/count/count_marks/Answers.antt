@@ -11,8 +11,8 @@ loop-u-init g c = (refl, omega arith)
 pub loop-u-preserved : goal.loop-u-preserved
 loop-u-preserved g c =
     let w = view_of g.S.Sheet c.args.sheet.now in (
-      omega (arith, c.count-marks-from.ensures.counted, c.loop-u.invariant.0, marks_count w c.loop-u.u),
-      omega (arith, c.count-marks-from.ensures.few, c.loop-u.invariant.1),
+      omega (arith, c.count_marks_from.ensures.counted, c.loop-u.invariant.0, marks_count w c.loop-u.u),
+      omega (arith, c.count_marks_from.ensures.few, c.loop-u.invariant.1),
     )
 
 pub returns : goal.returns

@@ -9,13 +9,13 @@ pub loop-v-init : goal.loop-v-init
 unfolding marks_from
 loop-v-init g c = (refl, omega arith)
 
-pub overflow-add-count : goal.overflow-add-count
-overflow-add-count g c = omega (arith, c.one-if-count.ensures, bit_short c.marked.result, c.loop-v.invariant.1)
+pub overflow_add-count : goal.overflow_add-count
+overflow_add-count g c = omega (arith, c.one_if-count.ensures, bit_short c.marked.result, c.loop-v.invariant.1)
 
 pub loop-v-preserved : goal.loop-v-preserved
 loop-v-preserved g c =
     let w = view_of g.S.Sheet c.args.sheet.now in
-    let one : c.one-if-count.result ≡ bit (w.marked c.args.u c.loop-v.v) = c.one-if-count.ensures ∙ ap bit c.marked.ensures in (
+    let one : c.one_if-count.result ≡ bit (w.marked c.args.u c.loop-v.v) = c.one_if-count.ensures ∙ ap bit c.marked.ensures in (
       omega (arith, one, c.loop-v.invariant.0, marks_from_count w c.args.u c.loop-v.v),
       omega (arith, one, bit_short (w.marked c.args.u c.loop-v.v), c.loop-v.invariant.1),
     )

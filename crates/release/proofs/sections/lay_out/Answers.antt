@@ -9,7 +9,7 @@ returns g c =
     let w = view_of g.S.Sheet c.args.sheet.now in
     let z = grade_at c.args.grades.now in
     laid (finding w z c.args.ring.now) c.new-draft.ensures
-    c.count-records-records.ensures c.count-marks.ensures (c.count-records-records.ensures ∙ sym (depths_long w z 64)) refl
-    c.byte.ensures c.put-records.ensures.adds c.two.ensures c.put-marks.ensures.adds
-    c.byte-2.ensures c.put-depths.ensures.adds c.byte-3.ensures c.put-ring.ensures
-    (omega (arith, c.new-draft.ensures, c.byte.ensures.long, c.put-records.ensures.within, c.two.ensures.long, c.put-marks.ensures.within, c.byte-2.ensures.long, c.put-depths.ensures.within, c.byte-3.ensures.long, c.put-ring.ensures.long, c.requires.ring))
+    c.count_records-records.ensures c.count_marks.ensures (c.count_records-records.ensures ∙ sym (depths_long w z 64)) refl
+    c.byte.ensures c.put_records.ensures.adds c.two.ensures c.put_marks.ensures.adds
+    c.byte-2.ensures c.put_depths.ensures.adds c.byte-3.ensures c.put_ring.ensures
+    (omega (arith, c.new-draft.ensures, c.byte.ensures.long, c.put_records.ensures.within, c.two.ensures.long, c.put_marks.ensures.within, c.byte-2.ensures.long, c.put_depths.ensures.within, c.byte-3.ensures.long, c.put_ring.ensures.long, c.requires.ring))

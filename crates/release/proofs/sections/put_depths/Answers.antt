@@ -13,8 +13,8 @@ pub loop-u-init : goal.loop-u-init
 unfolding depths_below
 loop-u-init g c = (adds_none c.args.draft.now, omega arith)
 
-pub put-depth-requires : goal.put-depth-requires
-put-depth-requires g c = record {
+pub put_depth-requires : goal.put_depth-requires
+put_depth-requires g c = record {
   room = omega (arith, c.requires.room, c.loop-u.invariant.1);
   short = λ is. c.requires.short c.loop-u.u (omega arith) (sym (c.stands.ensures ∙ ap is_standing c.state.ensures) ∙ is);
 }
@@ -25,8 +25,8 @@ loop-u-preserved g c =
     let z = grade_at c.args.grades.now in
     let stands : c.stands.result ≡ w.stands c.loop-u.u = c.stands.ensures ∙ ap is_standing c.state.ensures in (
       adds_more (λ n. flat_map of_two (depths_below w z n)) c.loop-u.u (depths_more w z c.loop-u.u) c.loop-u.invariant.0
-          (adds_as (flat_map of_two (one_if (w.stands c.loop-u.u) (nat_abs (z c.loop-u.u)))) (ap (λ (b : Bool). flat_map of_two (one_if b (nat_abs (z c.loop-u.u)))) stands) c.put-depth.ensures.adds),
-      omega (arith, c.loop-u.invariant.1, c.put-depth.ensures.within),
+          (adds_as (flat_map of_two (one_if (w.stands c.loop-u.u) (nat_abs (z c.loop-u.u)))) (ap (λ (b : Bool). flat_map of_two (one_if b (nat_abs (z c.loop-u.u)))) stands) c.put_depth.ensures.adds),
+      omega (arith, c.loop-u.invariant.1, c.put_depth.ensures.within),
     )
 
 pub returns : goal.returns

@@ -15,8 +15,8 @@ loop-u-init g c = (adds_none c.args.draft.now, omega arith)
 pub loop-u-preserved : goal.loop-u-preserved
 loop-u-preserved g c =
     let w = view_of g.S.Sheet c.args.sheet.now in (
-      adds_more (λ n. flat_map of_pair (marks_below w n)) c.loop-u.u (marks_more w c.loop-u.u) c.loop-u.invariant.0 c.put-marks-from.ensures.adds,
-      omega (arith, c.loop-u.invariant.1, c.put-marks-from.ensures.within),
+      adds_more (λ n. flat_map of_pair (marks_below w n)) c.loop-u.u (marks_more w c.loop-u.u) c.loop-u.invariant.0 c.put_marks_from.ensures.adds,
+      omega (arith, c.loop-u.invariant.1, c.put_marks_from.ensures.within),
     )
 
 pub returns : goal.returns

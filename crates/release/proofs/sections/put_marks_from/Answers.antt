@@ -18,8 +18,8 @@ loop-v-preserved g c =
     let u = c.args.u in
     let v = c.loop-v.v in (
       adds_more (λ n. flat_map of_pair (marks_from w u n)) v (marks_from_more w u v) c.loop-v.invariant.0
-          (adds_as (flat_map of_pair (one_if (w.marked u v) (u, v))) (ap (λ b. flat_map of_pair (one_if b (u, v))) c.marked.ensures) c.pair-if.ensures.adds),
-      omega (arith, c.loop-v.invariant.1, c.pair-if.ensures.within),
+          (adds_as (flat_map of_pair (one_if (w.marked u v) (u, v))) (ap (λ b. flat_map of_pair (one_if b (u, v))) c.marked.ensures) c.pair_if.ensures.adds),
+      omega (arith, c.loop-v.invariant.1, c.pair_if.ensures.within),
     )
 
 pub returns : goal.returns

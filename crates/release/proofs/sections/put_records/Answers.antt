@@ -16,8 +16,8 @@ loop-u-preserved g c =
     let w = view_of g.S.Sheet c.args.sheet.now in
     let stands : c.stands.result ≡ w.stands c.loop-u.u = c.stands.ensures ∙ ap is_standing c.state.ensures in (
       adds_more (records_below w) c.loop-u.u (records_more w c.loop-u.u) c.loop-u.invariant.0
-          (adds_as (one_if (w.stands c.loop-u.u) c.loop-u.u) (ap (λ b. one_if b c.loop-u.u) stands) c.byte-if.ensures.adds),
-      omega (arith, c.loop-u.invariant.1, c.byte-if.ensures.within),
+          (adds_as (one_if (w.stands c.loop-u.u) c.loop-u.u) (ap (λ b. one_if b c.loop-u.u) stands) c.byte_if.ensures.adds),
+      omega (arith, c.loop-u.invariant.1, c.byte_if.ensures.within),
     )
 
 pub returns : goal.returns

@@ -8,20 +8,20 @@ pub returns-in-default : goal.returns-in-default
 returns-in-default c n m f =
     let bs = c.args.bytes.now in
     let k = c.find.result in
-    let s = subst (λ (xs : List ℕ). FirstAt 32 xs k) c.split-at.ensures.back c.find.ensures in
-    c.in-default.ensures n (rw c.split-at-2.ensures.front (cut_left bs k n m s f))
+    let s = subst (λ (xs : List ℕ). FirstAt 32 xs k) c.split_at.ensures.back c.find.ensures in
+    c.in-default.ensures n (rw c.split_at-2.ensures.front (cut_left bs k n m s f))
 
 pub returns-in-default-one : goal.returns-in-default-one
 returns-in-default-one c n m f =
     let bs = c.args.bytes.now in
     let k = c.find.result in
-    let s = subst (λ (xs : List ℕ). FirstAt 32 xs k) c.split-at.ensures.back c.find.ensures in
-    c.in-default-one.ensures m (rw c.split-at-2.ensures.back (cut_right bs k n m s f))
+    let s = subst (λ (xs : List ℕ). FirstAt 32 xs k) c.split_at.ensures.back c.find.ensures in
+    c.in-default-one.ensures m (rw c.split_at-2.ensures.back (cut_right bs k n m s f))
 
 pub returns : goal.returns
 returns c =
     let bs = c.args.bytes.now in
     let j = 1 + c.find.result in
     joined_cut bs j c.in-Some.n c.in-Some-one.m
-    (subst (λ (xs : List ℕ). Field xs c.in-Some.n) c.split-at-2.ensures.front c.in-Some.ensures)
-    (subst (λ (xs : List ℕ). Field xs c.in-Some-one.m) c.split-at-2.ensures.back c.in-Some-one.ensures)
+    (subst (λ (xs : List ℕ). Field xs c.in-Some.n) c.split_at-2.ensures.front c.in-Some.ensures)
+    (subst (λ (xs : List ℕ). Field xs c.in-Some-one.m) c.split_at-2.ensures.back c.in-Some-one.ensures)

@@ -6,7 +6,7 @@ use Rattle.script.proofs.print.put_entries.Goals as goal
 
 pub loop-i-preserved : goal.loop-i-preserved
 loop-i-preserved g c =
-    let p = c.put-entry-end in
+    let p = c.put_entry-end in
     let x = c.index-entries-i in (
       put_more (entry_text g.V.Spelled.text) c.args.entries.now c.loop-i.i x.result (omega arith) x.is c.loop-i.invariant.0 p.ensures.written,
       omega (arith, c.loop-i.invariant.1, p.ensures.within),

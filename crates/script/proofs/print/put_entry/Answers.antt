@@ -5,6 +5,6 @@ use Rattle.script.proofs.print.put_entry.Goals as goal
 pub returns : goal.returns
 returns g c =
     record {
-      written = put_then c.put-field-name.ensures.written (put_then c.put-text-colon.ensures c.put.ensures.written);
-      within = omega (arith, c.put-field-name.ensures.within, c.put-text-colon.ensures.ends, c.put.ensures.within);
+      written = put_then c.put_field-name.ensures.written (put_then c.put_text-colon.ensures c.put.ensures.written);
+      within = omega (arith, c.put_field-name.ensures.within, c.put_text-colon.ensures.ends, c.put.ensures.within);
     }

@@ -3,10 +3,10 @@ use Rattle.script.proofs.Puts.{put_then}
 use Rattle.script.proofs.Sizes.{byte_long}
 use Rattle.script.proofs.print.put_field.Goals as goal
 
-pub put-number-requires : goal.put-number-requires
-put-number-requires c = let l = byte_long c.args.n (search rules) in omega (arith, c.put-text-space.ensures.ends)
+pub put_number-requires : goal.put_number-requires
+put_number-requires c = let l = byte_long c.args.n (search rules) in omega (arith, c.put_text-space.ensures.ends)
 
 pub returns : goal.returns
 returns c =
     let l = byte_long c.args.n (search rules) in
-    record { written = put_then c.put-text-space.ensures c.put-number.ensures; within = omega (arith, c.put-text-space.ensures.ends, c.put-number.ensures.ends) }
+    record { written = put_then c.put_text-space.ensures c.put_number.ensures; within = omega (arith, c.put_text-space.ensures.ends, c.put_number.ensures.ends) }

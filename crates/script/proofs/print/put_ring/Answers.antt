@@ -6,7 +6,7 @@ use Rattle.script.proofs.print.put_ring.Goals as goal
 
 pub loop-i-preserved : goal.loop-i-preserved
 loop-i-preserved c =
-    let p = c.put-field-end in (
+    let p = c.put_field-end in (
       put_more field c.args.ring.now c.loop-i.i (get_or c.args.ring.now c.loop-i.i 0) (omega arith) (search rules) c.loop-i.invariant.0 p.ensures.written,
       omega (arith, c.loop-i.invariant.1, p.ensures.within),
     )

@@ -14,6 +14,6 @@ bits_alone Bits = refl
 pub returns : goal.returns
 returns c =
     let s = c.new.result in
-    IfOk-weaker c.run-on.result (λ v. Opened (rows_meaning s.table.present s.table.rows) c.args.script.now (vec_items v)) (λ v. Opened (new_sheet c.args.make) c.args.script.now (vec_items v))
+    IfOk-weaker c.run_on.result (λ v. Opened (rows_meaning s.table.present s.table.rows) c.args.script.now (vec_items v)) (λ v. Opened (new_sheet c.args.make) c.args.script.now (vec_items v))
     (λ v o. subst (λ (m : Meaning). Opened m c.args.script.now (vec_items v)) (c.new.ensures ∙ bits_alone c.args.make) o)
-    c.run-on.ensures
+    c.run_on.ensures

@@ -8,7 +8,7 @@ pub loop-answer-preserved : goal.loop-answer-preserved
 loop-answer-preserved c =
     let x = c.answer-item in
     said_more c.args.answers.now c.loop-answer.answer-index x.result (vec_items c.loop-answer.out) (vec_items c.say.new.out)
-    (omega arith) x.is c.loop-answer.invariant c.in-ok-say.ensures
+    (omega arith) x.is c.loop-answer.invariant c.in_ok-say.ensures
 
 pub returns : goal.returns
 returns c =

@@ -3,4 +3,4 @@ use Rattle.layers.proofs.Filing.{seen_called, mark_seen}
 use Rattle.layers.proofs.folder.FolderSheet.mark.Goals as goal
 
 pub returns : goal.returns
-returns g c = seen_called (mark_seen (filed_in g.S.Sheet c.args.self.now) c.args.u c.args.v) c.mark-here.ensures
+returns g c = seen_called (mark_seen (filed_in g.S.Sheet c.args.self.now) c.args.u c.args.v) c.mark_here.ensures

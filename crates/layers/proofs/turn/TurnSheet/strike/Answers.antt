@@ -2,4 +2,4 @@ use Rattle.layers.specs.Turning.{turned_strikes}
 use Rattle.layers.proofs.turn.TurnSheet.strike.Goals as goal
 
 pub returns : goal.returns
-returns g c = turned_strikes c.args.u c.args.v c.strike-below.ensures
+returns g c = turned_strikes c.args.u c.args.v c.strike_below.ensures

@@ -7,8 +7,8 @@ use Rattle.sheet.proofs.bitsheet.BitSheet.new.Goals as goal
 bare : {rows : List ℕ} → rows ≡ replicate 64 0 → (u v : ℕ) → row_marks rows u v ≡ false
 bare is u v = ap (λ (rows : List ℕ). row_marks rows u v) is ∙ zeros_bare 64 u v
 
-pub invariant-of-result : goal.invariant-of-result
-invariant-of-result c =
+pub invariant_of-result : goal.invariant_of-result
+invariant_of-result c =
     let none = bare c.empty.ensures.rows in (
       (λ u. none u u),
       (

@@ -6,34 +6,34 @@ use Rattle.sheet.specs.Rows.{row_states}
 use Rattle.sheet.proofs.Checking.{pair_declined}
 use Rattle.sheet.proofs.Tables.{Written, written_back, written_keeps, mark_taken}
 use Rattle.sheet.proofs.bitsheet.BitSheetSheet.mark.Goals as goal
-use Rattle.sheet.proofs.bitsheet.BitSheetSheet.mark.Goals.{After-set-row}
+use Rattle.sheet.proofs.bitsheet.BitSheetSheet.mark.Goals.{After-set_row}
 
 -- a pair that fails a check
-pub returns-in-err-check-pair : goal.returns-in-err-check-pair
-returns-in-err-check-pair c =
+pub returns-in_err-check_pair : goal.returns-in_err-check_pair
+returns-in_err-check_pair c =
     let states = row_states c.args.self.now.table.present in
-    let p = err_from_is_err_and c.from-residual.result c.from-residual.ensures.1 in
+    let p = err_from_is_err_and c.from_residual.result c.from_residual.ensures.1 in
     pair_declined c.args.u c.args.v (states c.args.u) (states c.args.v) _
-    c.from-residual.result c.in-err-check-pair.field-0.0
+    c.from_residual.result c.in_err-check_pair.field_0.0
     (ap answer_number p.1 ∙ ap number_of p.2)
-    (rw (c.state.ensures, c.state-2.ensures) at c.in-err-check-pair.ensures)
+    (rw (c.state.ensures, c.state-2.ensures) at c.in_err-check_pair.ensures)
 
 -- a pair that passes them: its row is written back with one bit changed
-written : (c : After-set-row) → let old = c.args.self.now.table in
-    let new = c.set-row.new.self in
+written : (c : After-set_row) → let old = c.args.self.now.table in
+    let new = c.set_row.new.self in
     Written old.present new.present old.rows new.rows c.args.u c.args.v true
 written c =
-    let wrote = c.set-row.ensures in
-    written_back c.with-bit.result c.state.ensures c.state-2.ensures c.in-ok-check-pair.ensures
-    c.row-row.ensures c.with-bit.ensures.below wrote.rows wrote.long wrote.present
+    let wrote = c.set_row.ensures in
+    written_back c.with_bit.result c.state.ensures c.state-2.ensures c.in_ok-check_pair.ensures
+    c.row-row.ensures c.with_bit.ensures.below wrote.rows wrote.long wrote.present
 
-pub invariant-of-self : goal.invariant-of-self
-invariant-of-self c =
+pub invariant_of-self : goal.invariant_of-self
+invariant_of-self c =
     let old = c.args.self.now in
     written_keeps (written c) old.irreflexive old.from old.to
 
 pub returns : goal.returns
 returns c =
     let old = c.args.self.now in
-    mark_taken (written (goal.at.returns c).After-set-row) old.irreflexive
-    (ap (λ (n : ℕ). has n c.args.v) (sym c.row-row.ensures) ∙ sym c.if-has-bit.ensures)
+    mark_taken (written (goal.at.returns c).After-set_row) old.irreflexive
+    (ap (λ (n : ℕ). has n c.args.v) (sym c.row-row.ensures) ∙ sym c.if-has_bit.ensures)

@@ -10,8 +10,8 @@ use Rattle.sheet.proofs.bitsheet.Rows.count.Goals as goal
 pub loop-u-init : goal.loop-u-init
 loop-u-init c = (omega arith, sym (sum_none _), sym (sum_none _))
 
-pub overflow-add-total : goal.overflow-add-total
-overflow-add-total c =
+pub overflow_add-total : goal.overflow_add-total
+overflow_add-total c =
     let h : get_or c.args.self.now.rows c.loop-u.u 0 < 2 ^ 64 = search rules in
     omega (arith, ones-le 64 (get_or c.args.self.now.rows c.loop-u.u 0) h, c.loop-u.invariant.0)
 
