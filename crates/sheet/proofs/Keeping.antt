@@ -31,16 +31,19 @@ kept_lawful present m held capacity free from to counted room least most =
       most = most;
     }
 
--- what such a make promises of its table, in the order of its ghost fields
-abbrev pub Promises : ℕ → (ℕ → ℕ → Bool) → Type 0
-Promises present m = Irreflexive m × (PresentFrom present m × (PresentTo present m × Unit {0}))
+-- what such a make promises of its table, by the names of its ghost fields
+pub record Promises (present : ℕ) (m : ℕ → ℕ → Bool) : Type 0 where
+  pub irreflexive : Irreflexive m
+  pub from : PresentFrom present m
+  pub to : PresentTo present m
 
 -- a make that is new: no bit in its word, no mark in its table
 pub bare_keeps : (present : ℕ) (m : ℕ → ℕ → Bool) → ((u v : ℕ) → m u v ≡ false) → Promises present m
-bare_keeps present m bare = (
-  (λ u. bare u u),
-  ((λ u v h. absurd (both_ways (m u v) (bare u v) h)), ((λ u v h. absurd (both_ways (m u v) (bare u v) h)), tt)),
-)
+bare_keeps present m bare = record {
+  irreflexive = λ u. bare u u;
+  from = λ u v h. absurd (both_ways (m u v) (bare u v) h);
+  to = λ u v h. absurd (both_ways (m u v) (bare u v) h);
+}
 
 pub bare_empty : {present held : ℕ} {m : ℕ → ℕ → Bool} (capacity : ℕ) → present ≡ 0 → m ≡ (λ u v. false) → held ≡ 0 → kept_meaning present m held capacity ≡ empty capacity
 bare_empty capacity none bare nil =
@@ -75,7 +78,7 @@ module _ {n : ℕ} {r : Result (Unit {0}) Decline} (present still u : ℕ) (told
       go (suc k) e = ap (λ f. f x) e ∙ h
 
   pub entered_keeps : (m : ℕ → ℕ → Bool) → Irreflexive m → PresentFrom present m → PresentTo present m → Promises still m
-  entered_keeps m free from to = (free, ((λ x y h. stays x (from x y h)), ((λ x y h. stays y (to x y h)), tt)))
+  entered_keeps m free from to = record { irreflexive = free; from = λ x y h. stays x (from x y h); to = λ x y h. stays y (to x y h) }
 
 -- the same call, told by what the make means: only the states can change
 pub enter_called : {r : Result (Unit {0}) Decline} (present still u : ℕ) (m : ℕ → ℕ → Bool) (held capacity : ℕ)
@@ -102,13 +105,12 @@ module _ {present : ℕ} {m after : ℕ → ℕ → Bool} {u v : ℕ} where
       → Promises present after
   written_keeps {b = b} w free from to =
       let left = present_stands (has present u) w.clear.left in
-      let right = present_stands (has present v) w.clear.right in (
-        (λ x. ap (λ f. f x x) w.marks ∙ put_irreflexive m u v b w.clear.apart free x),
-        (
-          (λ x y h. put_keeps m u v b (λ p q. has present p ≡ true) left from x y (sym (ap (λ f. f x y) w.marks) ∙ h)),
-          ((λ x y h. put_keeps m u v b (λ p q. has present q ≡ true) right to x y (sym (ap (λ f. f x y) w.marks) ∙ h)), tt),
-        ),
-      )
+      let right = present_stands (has present v) w.clear.right in
+      record {
+        irreflexive = λ x. ap (λ f. f x x) w.marks ∙ put_irreflexive m u v b w.clear.apart free x;
+        from = λ x y h. put_keeps m u v b (λ p q. has present p ≡ true) left from x y (sym (ap (λ f. f x y) w.marks) ∙ h);
+        to = λ x y h. put_keeps m u v b (λ p q. has present q ≡ true) right to x y (sym (ap (λ f. f x y) w.marks) ∙ h);
+      }
 
   written_meaning : {b : Bool} → Written present m after u v b → (now held capacity : ℕ) → now ≡ held
       → kept_meaning present after now capacity ≡ kept_meaning present (put_mark m u v b) held capacity

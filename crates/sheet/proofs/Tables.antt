@@ -75,17 +75,21 @@ put_more f u x h = go (eqb x u)
     go true = refl
     go false = h
 
+-- what a bit sheet promises of its rows, by the names of its ghost fields
+pub record Promises (present : ℕ) (rows : List ℕ) : Type 0 where
+  pub irreflexive : Irreflexive rows
+  pub from : PresentFrom present rows
+  pub to : PresentTo present rows
+
 -- the rows of a sheet before and after u enters
 module _ (present still u : ℕ) {rows after : List ℕ} (bits : has still ≡ put (has present) u true) (same : after ≡ rows) where
   pub entered_keeps : Irreflexive rows → PresentFrom present rows → PresentTo present rows
-      → Irreflexive after × (PresentFrom still after × (PresentTo still after × Unit {0}))
-  entered_keeps free from to = subst (λ xs. Irreflexive xs × (PresentFrom still xs × (PresentTo still xs × Unit {0}))) (sym same) (
-    free,
-    (
-      (λ x y h. ap (λ f. f x) bits ∙ put_more (has present) u x (from x y h)),
-      ((λ x y h. ap (λ f. f y) bits ∙ put_more (has present) u y (to x y h)), tt),
-    ),
-  )
+      → Promises still after
+  entered_keeps free from to = subst (Promises still) (sym same) (record {
+    irreflexive = free;
+    from = λ x y h. ap (λ f. f x) bits ∙ put_more (has present) u x (from x y h);
+    to = λ x y h. ap (λ f. f y) bits ∙ put_more (has present) u y (to x y h);
+  })
 
   -- entering an absent number is taken
   pub enter_taken : u ≤ 63 → has present u ≡ false
@@ -123,19 +127,14 @@ module _ {present still : ℕ} {rows after : List ℕ} {u v : ℕ} where
   -- What a bit sheet promises of its rows holds of them then:
   -- the one new mark leads from a standing record to another.
   pub written_keeps : {b : Bool} → Written present still rows after u v b → Irreflexive rows → PresentFrom present rows → PresentTo present rows
-      → Irreflexive after × (PresentFrom still after × (PresentTo still after × Unit {0}))
-  written_keeps {b = b} w free from to = (
-    written_irreflexive w free,
-    (
-      (λ x y h. ap (λ (n : ℕ). has n x) w.kept
-          ∙ put_keeps (row_marks rows) u v b (λ p q. has present p ≡ true) (row_stands (has present u) w.clear.left) from x y (sym (ap (λ f. f x y) w.marks) ∙ h)),
-      (
-        (λ x y h. ap (λ (n : ℕ). has n y) w.kept
-            ∙ put_keeps (row_marks rows) u v b (λ p q. has present q ≡ true) (row_stands (has present v) w.clear.right) to x y (sym (ap (λ f. f x y) w.marks) ∙ h)),
-        tt,
-      ),
-    ),
-  )
+      → Promises still after
+  written_keeps {b = b} w free from to = record {
+    irreflexive = written_irreflexive w free;
+    from = λ x y h. ap (λ (n : ℕ). has n x) w.kept
+        ∙ put_keeps (row_marks rows) u v b (λ p q. has present p ≡ true) (row_stands (has present u) w.clear.left) from x y (sym (ap (λ f. f x y) w.marks) ∙ h);
+    to = λ x y h. ap (λ (n : ℕ). has n y) w.kept
+        ∙ put_keeps (row_marks rows) u v b (λ p q. has present q ≡ true) (row_stands (has present v) w.clear.right) to x y (sym (ap (λ f. f x y) w.marks) ∙ h);
+  }
 
   written_pairs : {b : Bool} → Written present still rows after u v b → pairs (row_marks after) + bit (row_marks rows u v) ≡ pairs (row_marks rows) + bit b
   written_pairs {b = b} w =

@@ -8,13 +8,15 @@ pub invariant_of-result : goal.invariant_of-result
 invariant_of-result c =
     let places = c.empty.result.places in
     let n = c.empty.result.used in
-    let bare = ap (list_marks places) c.empty.ensures ∙ marks_none places in (
-      omega arith,
-      (
-        (λ u v. omega (arith, ap (λ (k : ℕ). times places k u v) c.empty.ensures, times_none places u v)),
-        bare_keeps c.none.result.set (list_marks places n) (λ u v. ap (λ m. m u v) bare),
-      ),
-    )
+    let bare = ap (list_marks places) c.empty.ensures ∙ marks_none places in
+    let kept = bare_keeps c.none.result.set (list_marks places n) (λ u v. ap (λ m. m u v) bare) in
+    record {
+      few = omega arith;
+      once = λ u v. omega (arith, ap (λ (k : ℕ). times places k u v) c.empty.ensures, times_none places u v);
+      irreflexive = kept.irreflexive;
+      from = kept.from;
+      to = kept.to;
+    }
 
 pub returns : goal.returns
 returns c =

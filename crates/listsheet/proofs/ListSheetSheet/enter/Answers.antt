@@ -4,14 +4,16 @@ use Rattle.listsheet.proofs.ListSheetSheet.enter.Goals as goal
 
 pub invariant_of-self : goal.invariant_of-self
 invariant_of-self c =
-    let old = c.args.self.now in (
-      old.few,
-      (
-        old.once,
-        entered_keeps old.present.set c.enter.new.self.set c.args.u c.enter.ensures
-            (list_marks old.table.places old.table.used) old.irreflexive old.from old.to,
-      ),
-    )
+    let old = c.args.self.now in
+    let kept = entered_keeps old.present.set c.enter.new.self.set c.args.u c.enter.ensures
+    (list_marks old.table.places old.table.used) old.irreflexive old.from old.to in
+    record {
+      few = old.few;
+      once = old.once;
+      irreflexive = kept.irreflexive;
+      from = kept.from;
+      to = kept.to;
+    }
 
 pub returns : goal.returns
 returns c =

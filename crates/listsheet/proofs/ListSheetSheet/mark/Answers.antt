@@ -13,7 +13,7 @@ pub returns-in_err-check_pair : goal.returns-in_err-check_pair
 returns-in_err-check_pair c =
     let states = present_states c.args.self.now.present.set in
     pair_left c.args.u c.args.v (states c.args.u) (states c.args.v) _
-    c.from_residual.result c.in_err-check_pair.field_0.0 c.from_residual.ensures.1 c.in_err-check_pair.ensures
+    c.from_residual.result c.in_err-check_pair.field-0.0 c.from_residual.ensures.1 c.in_err-check_pair.ensures
 
 -- the list is not full, so there is a place after its marks
 room : (c : After-push) → let old = c.args.self.now.table in old.used < 512
@@ -35,14 +35,16 @@ pub invariant_of-self : goal.invariant_of-self
 invariant_of-self c =
     let old = c.args.self.now in
     let new = c.push.new.self in
-    let wrote = c.push.ensures in (
-      omega (arith, room c),
-      (
-        once_pushed old.table.places new.places old.table.used new.used c.args.u c.args.v wrote.places wrote.used (omega (arith, room c))
-            (sym c.if-has.ensures) old.once,
-        written_keeps (written c) old.irreflexive old.from old.to,
-      ),
-    )
+    let wrote = c.push.ensures in
+    let kept = written_keeps (written c) old.irreflexive old.from old.to in
+    record {
+      few = omega (arith, room c);
+      once = once_pushed old.table.places new.places old.table.used new.used c.args.u c.args.v wrote.places wrote.used (omega (arith, room c))
+          (sym c.if-has.ensures) old.once;
+      irreflexive = kept.irreflexive;
+      from = kept.from;
+      to = kept.to;
+    }
 
 pub returns : goal.returns
 returns c =

@@ -12,7 +12,7 @@ pub returns-in_err-check_pair : goal.returns-in_err-check_pair
 returns-in_err-check_pair c =
     let states = present_states c.args.self.now.present.set in
     pair_left c.args.u c.args.v (states c.args.u) (states c.args.v) _
-    c.from_residual.result c.in_err-check_pair.field_0.0 c.from_residual.ensures.1 c.in_err-check_pair.ensures
+    c.from_residual.result c.in_err-check_pair.field-0.0 c.from_residual.ensures.1 c.in_err-check_pair.ensures
 
 -- a pair that passes them, and is found: the last mark takes its place
 written : (c : After-remove) → let old = c.args.self.now in let new = c.remove.new.self in
@@ -33,13 +33,15 @@ invariant_of-self c =
     let old = c.args.self.now in
     let new = c.remove.new.self in
     let wrote = c.remove.ensures in
-    let found = c.in-Some.ensures in (
-      omega (arith, old.few, wrote.used),
-      (
-        once_removed old.table.places new.places c.in-Some.k old.table.used new.used wrote.places wrote.used found.0 (omega (arith, found.0, old.few)) old.once,
-        written_keeps (written c) old.irreflexive old.from old.to,
-      ),
-    )
+    let found = c.in-Some.ensures in
+    let kept = written_keeps (written c) old.irreflexive old.from old.to in
+    record {
+      few = omega (arith, old.few, wrote.used);
+      once = once_removed old.table.places new.places c.in-Some.k old.table.used new.used wrote.places wrote.used found.0 (omega (arith, found.0, old.few)) old.once;
+      irreflexive = kept.irreflexive;
+      from = kept.from;
+      to = kept.to;
+    }
 
 pub returns : goal.returns
 returns c = strike_taken (written (goal.at.returns c).After-remove) c.in-Some.ensures.2 (omega (arith, c.remove.ensures.used))

@@ -28,4 +28,4 @@ returns-in-Ok c =
 pub returns-in-Err : goal.returns-in-Err
 returns-in-Err c =
     let f = ap (λ (x : List ℕ). get_or x 0 0) c.as_bytes-bytes.ensures.value in
-    parse_err c.args.text.now c.parse.result c.parse.ensures.value.0 (omega arith) (λ e. omega arith) c.in-Err.field_0 c.in-Err.is
+    parse_err c.args.text.now c.parse.result c.parse.ensures.value.0 (omega arith) (λ e. omega arith) c.in-Err.field-0 c.in-Err.is

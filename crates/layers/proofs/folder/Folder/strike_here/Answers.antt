@@ -14,7 +14,7 @@ returns-in_err-check_pair g c =
     let v = c.args.v in
     let p = err_from_is_err_and c.from_residual.result c.from_residual.ensures.1 in
     pair_declined u v (filed_states f u) (filed_states f v) _
-    c.from_residual.result c.in_err-check_pair.field_0.0
+    c.from_residual.result c.in_err-check_pair.field-0.0
     (ap answer_number p.1 ∙ ap number_of p.2)
     (rw (c.state_here.ensures, c.state_here-2.ensures) at c.in_err-check_pair.ensures)
 

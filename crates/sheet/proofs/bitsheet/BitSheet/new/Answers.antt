@@ -9,16 +9,12 @@ bare is u v = ap (λ (rows : List ℕ). row_marks rows u v) is ∙ zeros_bare 64
 
 pub invariant_of-result : goal.invariant_of-result
 invariant_of-result c =
-    let none = bare c.empty.ensures.rows in (
-      (λ u. none u u),
-      (
-        (λ u v h. absurd (both_ways _ (none u v) h)),
-        (
-          (λ u v h. absurd (both_ways _ (none u v) h)),
-          tt,
-        ),
-      ),
-    )
+    let none = bare c.empty.ensures.rows in
+    record {
+      irreflexive = λ u. none u u;
+      from = λ u v h. absurd (both_ways _ (none u v) h);
+      to = λ u v h. absurd (both_ways _ (none u v) h);
+    }
 
 pub returns : goal.returns
 returns c = (λ i. rows_meaning (c.empty.ensures.present i) (c.empty.ensures.rows i)) ∙ zeros_empty 64

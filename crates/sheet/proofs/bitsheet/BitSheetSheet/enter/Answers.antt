@@ -6,8 +6,8 @@ pub invariant_of-self : goal.invariant_of-self
 invariant_of-self c =
     let old = c.args.self.now in
     let wrote = c.set_present.ensures in
-    entered_keeps old.table.present c.set_present.new.self.present c.args.u wrote.present wrote.rows
-    old.irreflexive old.from old.to
+    let kept = entered_keeps old.table.present c.set_present.new.self.present c.args.u wrote.present wrote.rows old.irreflexive old.from old.to in
+    record { irreflexive = kept.irreflexive; from = kept.from; to = kept.to }
 
 pub returns : goal.returns
 returns c =

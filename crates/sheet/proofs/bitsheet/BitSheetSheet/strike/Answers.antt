@@ -14,7 +14,7 @@ returns-in_err-check_pair c =
     let states = row_states c.args.self.now.table.present in
     let p = err_from_is_err_and c.from_residual.result c.from_residual.ensures.1 in
     pair_declined c.args.u c.args.v (states c.args.u) (states c.args.v) _
-    c.from_residual.result c.in_err-check_pair.field_0.0
+    c.from_residual.result c.in_err-check_pair.field-0.0
     (ap answer_number p.1 ∙ ap number_of p.2)
     (rw (c.state.ensures, c.state-2.ensures) at c.in_err-check_pair.ensures)
 
@@ -30,7 +30,8 @@ written c =
 pub invariant_of-self : goal.invariant_of-self
 invariant_of-self c =
     let old = c.args.self.now in
-    written_keeps (written c) old.irreflexive old.from old.to
+    let kept = written_keeps (written c) old.irreflexive old.from old.to in
+    record { irreflexive = kept.irreflexive; from = kept.from; to = kept.to }
 
 pub returns : goal.returns
 returns c =
