@@ -1,4 +1,4 @@
--- A folder of a sheet is a sheet: its laws, and its calls by those below. Assumes nothing.
+-- The calls of a folder over a sheet, by those below. Assumes nothing.
 use Rattle.std.proofs.Common.{◌≡◌, ℕ, zero, suc, ◌+◌, ◌-◌, ◌≤◌, Bool, true, false, cond, ◌&&◌, ◌||◌, eqb, ltb, ◌⊎◌, Result, sym, refl, ap, ◌∙◌, inl, inr, zero-le, le_refl, arith}
 use mathlib.Core.Path.{fun_ext}
 use Rattle.std.proofs.lemmas.Bool.{and_parts, eqb-true, ne_eqb}
@@ -23,42 +23,6 @@ stands_there own Absent e = clash cc
 stands_there true Standing e = refl
 stands_there false Standing e = refl
 stands_there own Aside e = clash cc
-
-is_standing_true : (s : State) → is_standing s ≡ true → s ≡ Standing
-is_standing_true Absent e = clash cc
-is_standing_true Standing e = refl
-is_standing_true Aside e = clash cc
-
--- fewer marks, fewer pairs
-bit_and : (x y : Bool) → bit (x && y) ≤ bit x
-bit_and true true = le_refl 1
-bit_and true false = zero-le
-bit_and false y = zero-le
-
-sum_le : (f g : ℕ → ℕ) (n : ℕ) → ((k : ℕ) → f k ≤ g k) → sum_to f n ≤ sum_to g n
-unfolding sum_to
-sum_le f g zero h = zero-le
-sum_le f g (suc n) h = omega (arith, h n, sum_le f g n h)
-
-pairs_le : (f : Filed) → pairs (filed_marks f) ≤ pairs f.below.marks
-unfolding pairs
-pairs_le f =
-    sum_le (λ u. sum_to (λ v. bit (filed_marks f u v)) 64) (λ u. sum_to (λ v. bit (f.below.marks u v)) 64) 64
-    (λ u. sum_le (λ v. bit (filed_marks f u v)) (λ v. bit (f.below.marks u v)) 64
-    (λ v. bit_and (f.below.marks u v) (is_standing (filed_states f u) && is_standing (filed_states f v))))
-
-pub seen_lawful : (f : Filed) → Lawful f.below → Lawful (seen f)
-seen_lawful f l = record {
-  beyond = λ u h. ap (filed_state (f.own u)) (l.beyond u h);
-  ends = λ u v h.
-      let p = and_parts (f.below.marks u v) (is_standing (filed_states f u) && is_standing (filed_states f v)) h in
-      let q = and_parts (is_standing (filed_states f u)) (is_standing (filed_states f v)) p.1 in
-      (is_standing_true (filed_states f u) q.0, is_standing_true (filed_states f v) q.1, (l.ends u v p.0).2);
-  counted = omega (arith, pairs_le f, l.counted);
-  room = l.room;
-  least = l.least;
-  most = l.most;
-}
 
 -- a call that is told by the sheet below and the own set is told by what is seen, if what is seen changes as asked
 pub seen_called : {n : ℕ} {before changed after : Filed} {wanted : Meaning} {r : Result (Unit {0}) Decline} → (n ≡ 0 → seen changed ≡ wanted)

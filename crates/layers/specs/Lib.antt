@@ -3,3 +3,4 @@ pub mod Folders
 pub mod FiledIn
 pub mod Statements
 pub mod Turning
+pub mod FolderLaws

@@ -1,6 +1,9 @@
 // The folder: a sheet over any sheet, in which records are set aside and brought back.
 ghost use Rattle.std.specs.Prelude.{◌≡◌};
+ghost use Rattle.model.specs.Sets.{has};
+ghost use Rattle.sheet.specs.Meanings.{meaning};
 ghost use Rattle.layers.specs.Folders.{filed_states, filed_marks};
+ghost use Rattle.layers.specs.FolderLaws.{seen_lawful};
 ghost use Rattle.layers.specs.FiledIn.{filed_in, EntersIn, MarksIn, StrikesIn, SetsAside, BringsBack};
 
 use model::bits::{has_bit, with_bit, without_bit};
@@ -115,6 +118,10 @@ impl<S: Sheet> Sheet for Folder<S> {
     ghost held = { λ f. S.Sheet.held f.below };
 
     ghost capacity = { λ f. S.Sheet.capacity f.below };
+
+    ghost lawful = { λ f. seen_lawful
+        (record { below = meaning S.Sheet.states S.Sheet.marks S.Sheet.held S.Sheet.capacity f.below; own = has f.aside })
+        (S.Sheet.lawful f.below) };
 
     fn state(&self, u: u8) -> State {
         self.state_here(u)

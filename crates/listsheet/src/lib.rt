@@ -5,9 +5,7 @@ ghost use Rattle.std.specs.Prelude.{◌≡◌, ◌≤◌};
 ghost use Rattle.sheet.specs.Meanings.{pairs, empty};
 ghost use Rattle.sheet.specs.Kept.{present_states, Irreflexive, PresentFrom, PresentTo};
 ghost use Rattle.listsheet.specs.Places.{list_marks, Once, list_meaning};
-ghost use Rattle.std.proofs.Common.{arith};
-ghost use Rattle.sheet.proofs.Keeping.{kept_lawful};
-ghost use Rattle.listsheet.specs.Listed.{pairs_listed};
+ghost use Rattle.listsheet.specs.ListLaws.{list_lawful};
 
 use crate::marks::MarkList;
 use model::decline::Decline;
@@ -62,10 +60,7 @@ impl Sheet for ListSheet {
 
     ghost capacity = { λ _. 512 };
 
-    ghost lawful = { λ s.
-        let n = s.table.used in
-        kept_lawful s.present.set (list_marks s.table.places n) n 512 s.irreflexive s.from s.to
-        (omega (arith, pairs_listed s.table.places s.present.set n s.once s.from s.to)) s.few (omega arith) (omega arith) };
+    ghost lawful = { λ s. list_lawful s.present.set s.table.places s.table.used s.few s.once s.irreflexive s.from s.to };
 
     fn state(&self, u: u8) -> State {
         self.present.state(u)

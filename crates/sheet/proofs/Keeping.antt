@@ -1,4 +1,4 @@
--- A make that keeps a word of present records and a table of marks: its laws, and what its calls owe. Assumes nothing.
+-- A make that keeps a word of present records and a table of marks: what its calls owe. Assumes nothing.
 use Rattle.std.proofs.Common.{◌≡◌, ℕ, zero, suc, ◌+◌, ◌-◌, ◌≤◌, Bool, true, false, cond, eqb, Ok, Result, sym, refl, ap, ◌∙◌, arith}
 use mathlib.Core.Path.{fun_ext}
 use Rattle.std.proofs.lemmas.Bool.{both_ways, ne_eqb}
@@ -16,20 +16,6 @@ use Rattle.sheet.proofs.Checking.{Clear, clash, called_by, call_taken, pair_clea
 present_stands : (b : Bool) → cond b Standing Absent ≡ Standing → b ≡ true
 present_stands true e = refl
 present_stands false e = clash (cc)
-
--- the laws of a sheet, from what such a make promises of its table
-pub kept_lawful : (present : ℕ) (m : ℕ → ℕ → Bool) (held capacity : ℕ) → Irreflexive m → PresentFrom present m → PresentTo present m
-    → pairs m ≤ held → held ≤ capacity → 512 ≤ capacity → capacity ≤ 4032 → Lawful (kept_meaning present m held capacity)
-kept_lawful present m held capacity free from to counted room least most =
-    let state = λ (b : Bool). cond b Standing Absent in
-    record {
-      beyond = λ u h. ap state (has_beyond present u h);
-      ends = λ u v h. (ap state (from u v h), ap state (to u v h), λ e. both_ways (m u v) (ap (m u) (sym e) ∙ free u) h);
-      counted = counted;
-      room = room;
-      least = least;
-      most = most;
-    }
 
 -- what such a make promises of its table, by the names of its ghost fields
 pub record Promises (present : ℕ) (m : ℕ → ℕ → Bool) : Type 0 where

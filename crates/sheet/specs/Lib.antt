@@ -6,3 +6,4 @@ pub mod Rows
 pub mod Kept
 pub mod Views
 pub mod Counts
+pub mod KeptLaws

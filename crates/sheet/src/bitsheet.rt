@@ -1,13 +1,9 @@
 // The bit sheet: for each record a row of 64 yes-or-no answers, bit v of row u for the mark from u to v.
-ghost use Rattle.std.specs.Prelude.{◌≡◌, ◌<◌, Bool, true, length, replicate, if◌then◌else◌, slice_index, slice_set};
-ghost use Rattle.std.proofs.Common.{sym, ap, ◌∙◌, le_refl, arith};
+ghost use Rattle.std.specs.Prelude.{◌≡◌, ◌<◌, true, length, replicate, slice_index, slice_set};
 ghost use Rattle.model.specs.Sets.{has, put};
 ghost use Rattle.sheet.specs.Meanings.{pairs, empty};
 ghost use Rattle.sheet.specs.Rows.{row_states, row_marks, ones_in, rows_meaning, Irreflexive, PresentFrom, PresentTo};
-ghost use Rattle.std.proofs.lemmas.Bool.{both_ways};
-ghost use Rattle.model.proofs.Digits.{has_beyond};
-ghost use Rattle.sheet.specs.declared.state.State.TheVariants.{Absent, Standing};
-ghost use Rattle.sheet.specs.Counts.{pairs_room};
+ghost use Rattle.sheet.specs.KeptLaws.{rows_lawful};
 
 use crate::meaning::Sheet;
 use crate::pair::check_pair;
@@ -102,17 +98,7 @@ impl Sheet for BitSheet {
 
     ghost capacity = { λ _. 4032 };
 
-    ghost lawful = { λ s.
-        let m = row_marks s.table.rows in
-        let state = λ (b : Bool). (if b then Standing else Absent) in
-        record {
-          beyond = λ u h. ap state (has_beyond s.table.present u h);
-          ends = λ u v h. (ap state (s.from u v h), ap state (s.to u v h), λ e. both_ways (m u v) (ap (m u) (sym e) ∙ s.irreflexive u) h);
-          counted = le_refl (pairs m);
-          room = pairs_room m s.irreflexive;
-          least = omega arith;
-          most = omega arith;
-        } };
+    ghost lawful = { λ s. rows_lawful s.table.present s.table.rows s.irreflexive s.from s.to };
 
     fn state(&self, u: u8) -> State {
         if has_bit(self.table.present, u as usize) {
