@@ -13,5 +13,5 @@ returns-in_ok-from_slice c =
     subst (λ (d : Decline). Refused d (take (ring_length d) c.args.ring.now) (Forced (Decline.Forbidden c.in-Forbidden.k) c.in_ok-from_slice.field-0)) (sym c.in-Forbidden.is)
     (forced c.in_ok-from_slice.field-0 refl (c.in_ok-from_slice.ensures.items ∙ ap (λ (n : ℕ). take n c.args.ring.now) k-is))
 
-pub returns-in-default : goal.returns-in-default
-returns-in-default c = plain (λ e. only_forbidden c.args.decline e c.in-default.not-Forbidden)
+pub returns-in_default : goal.returns-in_default
+returns-in_default c = plain (λ e. only_forbidden c.args.decline e c.in_default.not-Forbidden)

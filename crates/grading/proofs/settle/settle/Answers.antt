@@ -36,7 +36,7 @@ returns-in-Some-find_repeat g c =
 pub loop-k-preserved : goal.loop-k-preserved
 loop-k-preserved g c =
     running_more g.V.Scale g.met.V.Scale.lawful c.args.problem.now c.loop-k.k c.loop-k.old c.relax_round.new.to c.loop-k.next c.relax_round.new.next c.loop-k.invariant c.relax_round.ensures
-    c.copy_from_slice.new.self c.copy_from_slice.ensures.after c.in-default.ensures (omega arith) (omega arith)
+    c.copy_from_slice.new.self c.copy_from_slice.ensures.after c.in_default.ensures (omega arith) (omega arith)
 
 pub unreachable-requires : goal.unreachable-requires
 unreachable-requires g c =

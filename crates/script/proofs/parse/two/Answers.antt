@@ -4,19 +4,19 @@ use Rattle.script.specs.Cuts.{FirstAt}
 use Rattle.script.proofs.Fields.{cut_left, cut_right, joined_cut}
 use Rattle.script.proofs.parse.two.Goals as goal
 
-pub returns-in-default : goal.returns-in-default
-returns-in-default c n m f =
+pub returns-in_default : goal.returns-in_default
+returns-in_default c n m f =
     let bs = c.args.bytes.now in
     let k = c.find.result in
     let s = subst (λ (xs : List ℕ). FirstAt 32 xs k) c.split_at.ensures.back c.find.ensures in
-    c.in-default.ensures n (rw c.split_at-2.ensures.front (cut_left bs k n m s f))
+    c.in_default.ensures n (rw c.split_at-2.ensures.front (cut_left bs k n m s f))
 
-pub returns-in-default-one : goal.returns-in-default-one
-returns-in-default-one c n m f =
+pub returns-in_default-one : goal.returns-in_default-one
+returns-in_default-one c n m f =
     let bs = c.args.bytes.now in
     let k = c.find.result in
     let s = subst (λ (xs : List ℕ). FirstAt 32 xs k) c.split_at.ensures.back c.find.ensures in
-    c.in-default-one.ensures m (rw c.split_at-2.ensures.back (cut_right bs k n m s f))
+    c.in_default-one.ensures m (rw c.split_at-2.ensures.back (cut_right bs k n m s f))
 
 pub returns : goal.returns
 returns c =
