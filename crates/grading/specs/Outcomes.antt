@@ -26,7 +26,7 @@ abbrev pub suffices : {V : Type 0} → Memory V → Bool
 suffices m = enough (length m.grades) (length m.ring) (length m.values) (length m.bytes)
 
 -- declined by a number, with all memory kept, scratch too
-pub record Declined {V X : Type 0} (number : ℕ) (before after : Memory V) (r : Result X Decline) : Type 0 where
+pub record Declined {V : Type 0} (number : ℕ) (before after : Memory V) (r : Result (Unit {0}) Decline) : Type 0 where
   pub answer : answer_number r ≡ number
   pub kept : after ≡ before
 

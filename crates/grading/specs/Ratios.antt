@@ -34,9 +34,14 @@ abbrev pub RatioOrCircle : View → Memory Whole → Memory Whole → Result Rat
 RatioOrCircle w before after (Ok r) = RatioGiven w r before after
 RatioOrCircle w before after (Err d) = (number_of d ≡ 12) × Shown (Circle w) (ring_length d) before after
 
+-- a result but for its value
+abbrev pub valueless : {X : Type 0} → Result X Decline → Result (Unit {0}) Decline
+valueless (Ok x) = Ok tt
+valueless (Err d) = Err d
+
 -- the checks in their order: 1, and then 12 or the ratio
 abbrev pub RatioFound : View → Memory Whole → Memory Whole → Result Ratio Decline → Type 0
-RatioFound w before after r = MatchBool (suffices before) (RatioOrCircle w before after r) (Declined 1 before after r)
+RatioFound w before after r = MatchBool (suffices before) (RatioOrCircle w before after r) (Declined 1 before after (valueless r))
 
 -- ---- on the way
 abbrev pub ratio : ℕ → ℕ → ℕ → Ratio

@@ -17,11 +17,11 @@ refusal-requires g c =
     let short : ring_length c.in-Err.decline ≤ 64 = refused_short w t (BestStrict w t) (both (of_whole (pos 0)) (of_unit (pos 0))) (ForbidsStrictly w t) Pairs (memory (replicate 64 (both (of_whole (pos 0)) (of_unit (pos 0)))) (replicate 64 0) (replicate 4160 (both (of_whole (pos 0)) (of_unit (pos 0)))) (replicate 4160 0)) (memory c.strict.new.grades c.strict.new.ring c.strict.new.values c.strict.new.bytes) refl c.in-Err.decline c.in-Err.ensures in
     omega arith
 
-pub returns-in_ok-list_grades : goal.returns-in_ok-list_grades
-returns-in_ok-list_grades g c =
+pub returns-in_ok-list_grades-in-Ok : goal.returns-in_ok-list_grades-in-Ok
+returns-in_ok-list_grades-in-Ok g c =
     let w = view_of g.S.Sheet c.args.sheet.now in
     let t = c.args.thresholds in
-    told_given w t (BestStrict w t) (both (of_whole (pos 0)) (of_unit (pos 0))) (ForbidsStrictly w t) Pairs (memory (replicate 64 (both (of_whole (pos 0)) (of_unit (pos 0)))) (replicate 64 0) (replicate 4160 (both (of_whole (pos 0)) (of_unit (pos 0)))) (replicate 4160 0)) (memory c.strict.new.grades c.strict.new.ring c.strict.new.values c.strict.new.bytes) refl c.in_ok-list_grades.field-0 c.in-Ok.ensures c.in_ok-list_grades.ensures
+    told_given w t (BestStrict w t) (both (of_whole (pos 0)) (of_unit (pos 0))) (ForbidsStrictly w t) Pairs (memory (replicate 64 (both (of_whole (pos 0)) (of_unit (pos 0)))) (replicate 64 0) (replicate 4160 (both (of_whole (pos 0)) (of_unit (pos 0)))) (replicate 4160 0)) (memory c.strict.new.grades c.strict.new.ring c.strict.new.values c.strict.new.bytes) refl c.in_ok-list_grades-in-Ok.field-0 c.in-Ok.ensures c.in_ok-list_grades-in-Ok.ensures
 
 pub returns-in-Err : goal.returns-in-Err
 returns-in-Err g c =

@@ -16,11 +16,11 @@ refusal-requires g c =
     let short : ring_length c.in-Err.decline ≤ 64 = refused_short w t (λ h. BestLoose w t (λ u. (h u).value)) (of_unit (pos 0)) (ForbidsLoosely w t) Units (memory (replicate 64 (of_unit (pos 0))) (replicate 64 0) (replicate 4160 (of_unit (pos 0))) (replicate 4160 0)) (memory c.unit.new.grades c.unit.new.ring c.unit.new.values c.unit.new.bytes) refl c.in-Err.decline c.in-Err.ensures in
     omega arith
 
-pub returns-in_ok-list_grades : goal.returns-in_ok-list_grades
-returns-in_ok-list_grades g c =
+pub returns-in_ok-list_grades-in-Ok : goal.returns-in_ok-list_grades-in-Ok
+returns-in_ok-list_grades-in-Ok g c =
     let w = view_of g.S.Sheet c.args.sheet.now in
     let t = unit_thresholds in
-    told_given w t (λ h. BestLoose w t (λ u. (h u).value)) (of_unit (pos 0)) (ForbidsLoosely w t) Units (memory (replicate 64 (of_unit (pos 0))) (replicate 64 0) (replicate 4160 (of_unit (pos 0))) (replicate 4160 0)) (memory c.unit.new.grades c.unit.new.ring c.unit.new.values c.unit.new.bytes) refl c.in_ok-list_grades.field-0 c.in-Ok.ensures c.in_ok-list_grades.ensures
+    told_given w t (λ h. BestLoose w t (λ u. (h u).value)) (of_unit (pos 0)) (ForbidsLoosely w t) Units (memory (replicate 64 (of_unit (pos 0))) (replicate 64 0) (replicate 4160 (of_unit (pos 0))) (replicate 4160 0)) (memory c.unit.new.grades c.unit.new.ring c.unit.new.values c.unit.new.bytes) refl c.in_ok-list_grades-in-Ok.field-0 c.in-Ok.ensures c.in_ok-list_grades-in-Ok.ensures
 
 pub returns-in-Err : goal.returns-in-Err
 returns-in-Err g c =

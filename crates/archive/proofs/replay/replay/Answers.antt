@@ -26,8 +26,8 @@ loop-call-preserved g c =
       now.meaning ∙ ap (λ (b : Meaning). next b call) inv.0 ∙ sym (run_more m cs i (Enter 0) c.loop-call-test.true),
       omega (arith, put.len, inv.1),
       each_push (λ k x. Right (run m (take k cs)) (get_or cs k (Enter 0)) x) xs ys i c.in_ok-given.given Taken
-          (λ k h. put.places.0 k Taken (omega (arith, inv.1)))
-          (ap (λ (n : ℕ). get_or ys n Taken) (sym inv.1) ∙ put.places.1 Taken refl)
+          (λ k h. put.by_index.0 k Taken (omega (arith, inv.1)))
+          (ap (λ (n : ℕ). get_or ys n Taken) (sym inv.1) ∙ put.by_index.1 Taken refl)
           (subst (λ (b : Meaning). Right b call c.in_ok-given.given) inv.0 now.right)
           inv.2,
     )
