@@ -1,6 +1,6 @@
 -- The first line of some bytes, and its call before the calls of the other lines.
 use Rattle.std.proofs.Common.{◌≡◌, ℕ, zero, suc, ◌<◌, List, [], ◌∷◌, ◌++◌, length, get_or, take, drop, sym, refl, ap, ◌∙◌, subst, add-one, arith}
-use Rattle.std.proofs.lemmas.List.{append_assoc, append-nil, drop_drop, nil_from_length}
+use Rattle.std.proofs.lemmas.List.{append_assoc, append-nil, drop-drop, nil_from_length}
 use Rattle.std.proofs.lemmas.Bool.{ne_eqb, eq-eqb}
 use Rattle.archive.specs.declared.call.Call.{Call}
 use Rattle.archive.specs.declared.call.Call.TheVariants.{Wrong}
@@ -39,7 +39,7 @@ pub goes_on : (script rest after : List ℕ) (calls more : List Call) (k : ℕ) 
     → GoesOn script calls rest → 0 < length rest → FirstAt 10 rest k → LineCall (take k rest) c
     → after ≡ drop 1 (drop k rest) → more ≡ calls ++ (c ∷ []) → GoesOn script more after
 goes_on script rest after calls more k c inv h s x e f cs said =
-    let left : after ≡ drop (suc k) rest = e ∙ drop_drop 1 k rest ∙ ap (λ (m : ℕ). drop m rest) (add-one k) in
+    let left : after ≡ drop (suc k) rest = e ∙ drop-drop 1 k rest ∙ ap (λ (m : ℕ). drop m rest) (add-one k) in
     let all : Spoken (lines_of rest) (c ∷ cs) = rw (lines_first rest k s h) (spoken_more (take k rest) (lines_of (drop (suc k) rest)) c cs x (subst (λ (bs : List ℕ). Spoken (lines_of bs) cs) left said)) in
     let same : calls ++ (c ∷ cs) ≡ more ++ cs = sym (append_assoc calls (c ∷ []) cs) ∙ ap (λ (xs : List Call). xs ++ cs) (sym f) in
     subst (Spoken (lines_of script)) same (inv (c ∷ cs) all)

@@ -9,7 +9,7 @@ use Rattle.script.proofs.print.put_answer.Goals as goal
 pub returns-in-Forced : goal.returns-in-Forced
 returns-in-Forced c =
     let i = c.in-Forced in
-    let number = put_as (field (number_of i.d)) (ap field c.number_in-Forced.ensures) c.put_field-number.ensures.written in
+    let number = put_as (field (number_of i.d)) (ap field c.number-in-Forced.ensures) c.put_field-number.ensures.written in
     let ring = put_as (flat_map field (vec_items i.ring)) (ap (flat_map field) c.deref.ensures.value) c.put_ring.ensures.written in
     record {
       written = put_as (text_of c.args.answer.now) (ap text_of (sym i.is)) (put_then c.put_text-no-in-Forced.ensures (put_then number (put_then c.put_text-word.ensures ring)));

@@ -9,8 +9,8 @@ pub returns-in-None : goal.returns-in-None
 returns-in-None c =
     let some : 0 < length c.args.script.now = omega arith in
     IfOk-weaker c.from_slice.result _ (λ v. Judged c.args.script.now (vec_items v))
-    (λ v e. wrong c.find.result some c.find.ensures (λ m h. c.in-None.ensures m (c.split_at.ensures.front ∙ h)) e.0)
-    c.from_slice.ensures.made
+    (λ v e. wrong c.find.result some c.find.ensures (λ m h. c.in-None.ensures m (c.split_at.ensures.front ∙ h)) e)
+    c.from_slice.ensures.items
 
 pub returns-in-Some : goal.returns-in-Some
 returns-in-Some c =
