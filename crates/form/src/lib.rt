@@ -1,3 +1,2 @@
 // The form of a release.
 #![tactic(auto)]
-

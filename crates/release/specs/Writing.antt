@@ -7,7 +7,7 @@ use Rattle.model.specs.Views.{View}
 use Rattle.scale.specs.declared.whole.Whole.{Whole}
 use Rattle.grading.specs.declared.ratio.Ratio.{Ratio}
 use Rattle.grading.specs.Outcomes.{Memory, suffices, Declined, Shown}
-use Rattle.grading.specs.Ratios.{RatioGiven}
+use Rattle.grading.specs.Ratios.{RatioGiven, valueless}
 use Rattle.form.specs.Laid.{laid_out}
 use Rattle.release.specs.Sections.{finding, grade_at}
 
@@ -27,7 +27,7 @@ pub data Writes (w : View) (before after : Memory Whole) (out-before out-after :
 
 -- declined by 1 for the memory, with all of it and the output kept
 pub record Refused (before after : Memory Whole) (out-before out-after : List ℕ) (a : Result ℕ Decline) : Type 0 where
-  pub memory : Declined 1 before after a
+  pub memory : Declined 1 before after (valueless a)
   pub output : out-after ≡ out-before
 
 -- the checks in their order: 1 for the memory, 12, and then 1 for the output

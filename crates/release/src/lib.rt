@@ -4,4 +4,4 @@
 mod count;
 mod draft;
 mod sections;
-pub mod write;
+mod write;
