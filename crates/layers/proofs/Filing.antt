@@ -1,22 +1,19 @@
 -- The calls of a folder over a sheet, by those below. Assumes nothing.
-use Rattle.std.proofs.Common.{◌≡◌, ℕ, zero, suc, ◌+◌, ◌-◌, ◌≤◌, Bool, true, false, cond, ◌&&◌, ◌||◌, eqb, ltb, ◌⊎◌, Result, sym, refl, ap, ◌∙◌, inl, inr, zero-le, le_refl, arith}
+use Rattle.std.proofs.Common.{◌≡◌, ℕ, zero, suc, ◌+◌, ◌-◌, ◌≤◌, Bool, true, false, cond, ◌&&◌, ◌||◌, eqb, ltb, ◌⊎◌, Result, sym, refl, ap, ◌∙◌, subst, inl, inr, zero-le, le_refl, arith}
 use mathlib.Core.Path.{fun_ext}
 use Rattle.std.proofs.lemmas.Bool.{and_parts, eqb-true, ne_eqb}
 use Rattle.model.specs.declared.decline.Decline.{Decline}
 use Rattle.model.specs.Refusals.{number_of, answer_number}
 use Rattle.model.specs.Rings.{bit, sum_to}
-use Rattle.model.specs.Sets.{put}
+use Rattle.model.specs.Sets.{has, put}
 use Rattle.sheet.specs.declared.state.State.{State}
 use Rattle.sheet.specs.declared.state.State.TheVariants.{Absent, Standing, Aside}
 use Rattle.sheet.specs.States.{is_absent, is_aside, is_standing}
 use Rattle.sheet.specs.Meanings.{Meaning, Lawful, pairs}
 use Rattle.sheet.specs.Checks.{enter_check, pair_check, mark_check, strike_check}
 use Rattle.sheet.specs.Calls.{put_state, put_mark, entered, marked, struck, after_check, Called}
-use Rattle.sheet.proofs.Checking.{Clear, pair_clear, pair_open}
+use Rattle.sheet.proofs.Checking.{Clear, clash, called_by, pair_clear, pair_open}
 use Rattle.layers.specs.Folders.{Filed, filed_state, filed_states, filed_marks, seen, entered_in, marked_in, struck_in}
-
-clash : {X : Type 0} → ◌≡◌ {A = ℕ} 0 1 → X
-clash e = absurd (omega arith)
 
 stands_there : (own : Bool) (s : State) → filed_state own s ≡ Standing → s ≡ Standing
 stands_there own Absent e = clash cc
@@ -24,29 +21,20 @@ stands_there true Standing e = refl
 stands_there false Standing e = refl
 stands_there own Aside e = clash cc
 
--- a call that is told by the sheet below and the own set is told by what is seen, if what is seen changes as asked
+-- a call that is told by what is filed is told by what is seen, if what is seen changes as asked
 pub seen_called : {n : ℕ} {before changed after : Filed} {wanted : Meaning} {r : Result (Unit {0}) Decline} → (n ≡ 0 → seen changed ≡ wanted)
     → Called n before changed after r → Called n (seen before) wanted (seen after) r
-seen_called {n = n} {before = before} {changed = changed} {wanted = wanted} same c = record { answer = c.answer; meaning = ap seen c.meaning ∙ go n same }
-  where
-    go : (n : ℕ) → (n ≡ 0 → seen changed ≡ wanted) → seen (after_check n changed before) ≡ after_check n wanted (seen before)
-    go zero h = h refl
-    go (suc n) h = refl
+seen_called same c = called_by seen refl same c
 
--- a call on the sheet below that leaves the own set alone
-pub below_called : {n k : ℕ} {before changed after : Meaning} {r : Result (Unit {0}) Decline} (own : ℕ → Bool) → n ≡ k → Called n before changed after r
-    → Called {A = Filed} k (record { below = before; own = own }) (record { below = changed; own = own }) (record { below = after; own = own }) r
-below_called {n = n} {before = before} {changed = changed} own same c = record {
-  answer = c.answer ∙ same;
-  meaning = ap file c.meaning ∙ go n ∙ ap (λ (k : ℕ). after_check k (file changed) (file before)) same;
-}
+-- a call on the sheet below that leaves the folder's set alone
+pub below_called : {n k own still : ℕ} {before changed after : Meaning} {r : Result (Unit {0}) Decline} → still ≡ own → n ≡ k → Called n before changed after r
+    → Called {A = Filed} k (record { below = before; own = has own }) (record { below = changed; own = has own }) (record { below = after; own = has still }) r
+below_called {k = k} {own = own} {before = before} {changed = changed} {after = after} {r = r} kept same c =
+    subst (λ (w : ℕ). Called {A = Filed} k (file before) (file changed) (record { below = after; own = has w }) r) (sym kept)
+    (called_by file same (λ _. refl) c)
   where
     file : Meaning → Filed
-    file m = record { below = m; own = own }
-
-    go : (n : ℕ) → file (after_check n changed before) ≡ after_check n (file changed) (file before)
-    go zero = refl
-    go (suc n) = refl
+    file m = record { below = m; own = has own }
 
 -- One changed mark is seen where both its records stand in the folder:
 -- at that pair what is seen is the new answer, and every other pair is seen as before.
