@@ -1,5 +1,5 @@
 -- From the outcome of a grading call to its answer. Assumes nothing.
-use Rattle.std.proofs.Common.{◌≡◌, ℕ, ◌≤◌, Bool, true, false, ◌⊎◌, List, length, get_or, take, IfOk, Ok, Err, vec_items, MatchBool, Result, Vec, sym, refl, ap, ◌∙◌, subst, inl, inr, arith}
+use Rattle.std.proofs.Common.{◌≡◌, ℕ, ◌≤◌, Bool, true, false, ◌⊎◌, List, get_or, take, IfOk, Ok, Err, vec_items, MatchBool, Result, Vec, sym, refl, subst, inl, inr, arith}
 use Rattle.std.specs.declared.alloc.Global.{Global}
 use Rattle.model.specs.declared.decline.Decline.{Decline}
 use Rattle.model.specs.declared.decline.Decline.TheVariants.{TooLittleMemory, NumberTooHigh, SameRecord, RecordAbsent, RecordAside, AlreadyStands, AlreadyMarked, SheetFull, NotMarked, NotSetAside, OutsideLimits, Circle, Forbidden, MissingByte, BrokenForm, DoesNotHold, WrongLine}

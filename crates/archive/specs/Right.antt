@@ -11,7 +11,7 @@ use Rattle.archive.specs.declared.call.Call.TheVariants.{Enter, Mark, Strike, Lo
 use Rattle.archive.specs.declared.answer.Answer.{Answer}
 use Rattle.archive.specs.declared.answer.Answer.TheVariants.{Taken, Declined}
 use Rattle.archive.specs.Told.{LooseTold, StrictTold, UnitTold}
-use Rattle.archive.specs.Runs.{next, run}
+use Rattle.archive.specs.Runs.{run}
 
 -- the answer that has no more to tell than a result does
 abbrev pub Tells : {X : Type 0} → Result X Decline → Answer → Type 0

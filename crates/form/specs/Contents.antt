@@ -1,5 +1,5 @@
 -- What a release contains, as lists. Assumes nothing.
-use Rattle.std.specs.Prelude.{ℕ, Bool, true, false, ◌&&◌, ◌||◌, List, [], ◌∷◌, ◌==◌}
+use Rattle.std.specs.Prelude.{ℕ, Bool, false, ◌&&◌, ◌||◌, List, [], ◌∷◌, ◌==◌}
 
 -- the records, the marks as pairs from and to, a depth for each record in the records' order, and a ring
 pub record Contents : Type 0 where

@@ -1,10 +1,9 @@
 -- Bits collected one after another. Assumes nothing.
-use Rattle.std.proofs.Common.{◌≡◌, ℕ, ◌+◌, ◌<◌, ◌≤◌, Bool, true, false, cond, not, ◌&&◌, eqb, ltb, ◌⊎◌, sym, refl, ap, ◌∙◌, ap₂, inl, inr, ⊎_elim, arith}
+use Rattle.std.proofs.Common.{◌≡◌, ℕ, ◌+◌, ◌<◌, ◌≤◌, Bool, true, false, cond, not, ◌&&◌, ltb, sym, refl, ap, ◌∙◌, ⊎_elim, arith}
 use Rattle.std.proofs.lemmas.Bool.{cases_eq, cases_lt, lt-ltb, le-ltb, eq-eqb, ne_eqb}
 use Rattle.model.specs.Sets.{has, put}
 use Rattle.model.specs.Views.{View, two, step, is_mark, is_hop}
 use Rattle.model.specs.declared.step.Step.TheVariants.{Mark, Hop, NoStep}
-use Rattle.model.specs.declared.step.Step.{Step}
 use Rattle.model.specs.Views.{marks, hops}
 use Rattle.model.proofs.Digits.{has_zero}
 use Rattle.grading.specs.Graphs.{Collected, both_in}

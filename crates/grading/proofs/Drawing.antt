@@ -1,10 +1,10 @@
 -- Rows made one after another, and that they draw the view. Assumes nothing.
-use Rattle.std.proofs.Common.{◌≡◌, ℕ, ◌+◌, ◌<◌, Bool, true, false, not, ◌&&◌, List, length, get_or, set, sym, refl, ap, ◌∙◌, subst, ap₂, ⊎_elim, arith, length-set, get_or-set_other, get_or-set_same}
+use Rattle.std.proofs.Common.{◌≡◌, ℕ, ◌+◌, ◌<◌, Bool, true, false, not, ◌&&◌, List, length, get_or, set, sym, refl, ◌∙◌, subst, ap₂, ⊎_elim, arith, length-set, get_or-set_other, get_or-set_same}
 use Rattle.std.proofs.lemmas.Bool.{cases_eq}
 use Rattle.model.specs.Sets.{has}
 use Rattle.model.specs.Views.{View, two, is_mark, is_hop}
 use Rattle.model.proofs.Steps.{two_turned}
-use Rattle.grading.specs.Graphs.{Collected, both_in, unmarked_from, MarkRows, Draws}
+use Rattle.grading.specs.Graphs.{Collected, unmarked_from, MarkRows, Draws}
 use Rattle.grading.proofs.Collecting.{collected_at, both_two, mark_by, hop_by}
 
 -- what holds of each place below i, and of what is written at i, holds of each below i + 1

@@ -1,5 +1,5 @@
 -- On a scale whose values are whole numbers, the best values are the best loose grading. Assumes nothing.
-use Rattle.std.proofs.Common.{◌≡◌, ℕ, zero, suc, ◌+◌, ◌*◌, ◌<◌, ◌≤◌, max, Bool, true, false, cond, ◌||◌, List, ℤ, pos, ◌+ℤ◌, ◌-ℤ◌, ◌*ℤ◌, neg_ℤ, nat_abs, ◌≤ℤ◌, sym, refl, ap, ◌∙◌, subst, ap₂, subst₂, ⊎_elim, suc-mul, zero-mul, arith}
+use Rattle.std.proofs.Common.{◌≡◌, ℕ, zero, suc, ◌+◌, ◌*◌, ◌<◌, ◌≤◌, max, Bool, true, false, cond, List, ℤ, pos, ◌+ℤ◌, ◌*ℤ◌, neg_ℤ, nat_abs, ◌≤ℤ◌, sym, refl, ap, ◌∙◌, subst, ap₂, ⊎_elim, suc-mul, zero-mul, arith}
 use borrow.Author.Differences.{ints}
 use lib.IntN.{zero-*ℤ, suc_ℤ-*ℤ}
 use lib.Signed.{lt_z}
@@ -7,8 +7,8 @@ use Rattle.std.proofs.lemmas.Bool.{or_left, or_right, or_cases}
 use Rattle.model.specs.declared.thresholds.Thresholds.{Thresholds}
 use Rattle.model.specs.Views.{View, step, is_mark, is_hop, is_step}
 use Rattle.model.specs.Rings.{marks_of, hops_of}
-use Rattle.model.specs.Gradings.{Graded, Loose, ForbidsLoose}
-use Rattle.model.proofs.Steps.{clash, hop_turned, hop_unmarked, step_head}
+use Rattle.model.specs.Gradings.{Loose, ForbidsLoose}
+use Rattle.model.proofs.Steps.{hop_turned, hop_unmarked, step_head}
 use Rattle.model.proofs.Forbids.{ring_forbids_loose}
 use Rattle.scale.specs.declared.scale.Scale.{Ghosts}
 use Rattle.scale.specs.Scales.{Lawful}

@@ -1,12 +1,12 @@
 -- Pairs of a whole number and a count of marks, and strict gradings. Assumes nothing.
-use Rattle.std.proofs.Common.{◌≡◌, ℕ, zero, suc, ◌+◌, ◌*◌, ◌<◌, ◌≤◌, Bool, true, false, cond, ◌||◌, ◌⊎◌, List, ℤ, pos, negsuc, ◌+ℤ◌, ◌-ℤ◌, ◌*ℤ◌, neg_ℤ, nat_abs, ◌≤ℤ◌, sym, refl, ap, ◌∙◌, subst, ap₂, inl, inr, ⊎_elim, suc-mul, zero-mul, arith}
+use Rattle.std.proofs.Common.{◌≡◌, ℕ, zero, suc, ◌+◌, ◌*◌, ◌<◌, ◌≤◌, Bool, true, false, cond, ◌⊎◌, List, ℤ, pos, negsuc, ◌+ℤ◌, ◌-ℤ◌, ◌*ℤ◌, neg_ℤ, nat_abs, ◌≤ℤ◌, sym, refl, ap, ◌∙◌, ap₂, inl, inr, ⊎_elim, suc-mul, zero-mul, arith}
 use borrow.Author.Differences.{ints}
 use lib.Signed.{lt_z}
-use Rattle.std.proofs.lemmas.Bool.{cases_lt, or_left, or_right, or_cases}
+use Rattle.std.proofs.lemmas.Bool.{cases_lt, or_left, or_right}
 use Rattle.model.specs.declared.thresholds.Thresholds.{Thresholds}
-use Rattle.model.specs.Views.{View, step, is_mark, is_hop, is_step}
+use Rattle.model.specs.Views.{View, step, is_mark, is_hop}
 use Rattle.model.specs.Rings.{marks_of, hops_of}
-use Rattle.model.specs.Gradings.{Graded, Strict, ForbidsStrict}
+use Rattle.model.specs.Gradings.{ForbidsStrict}
 use Rattle.model.proofs.Steps.{clash, hop_turned, hop_unmarked, step_stands, step_head}
 use Rattle.model.proofs.Forbids.{ring_forbids_strict}
 use Rattle.scale.specs.declared.scale.Scale.{Ghosts}
@@ -16,11 +16,11 @@ use Rattle.scale.specs.declared.pair.Pair.{Pair}
 use Rattle.scale.specs.Scales.{Lawful, whole_scale, unit_scale, pair_scale}
 use Rattle.scale.specs.Numbers.{whole_laws, unit_laws}
 use Rattle.scale.specs.PairLaws.{pair_laws}
-use Rattle.paths.specs.Steps.{value, view_steps}
+use Rattle.paths.specs.Steps.{view_steps}
 use Rattle.paths.specs.Walks.{Walk, stop, go, sum_round}
 use Rattle.paths.specs.Bests.{Best, Forbids}
 use Rattle.paths.proofs.Sums.{times, round_counts}
-use Rattle.grading.specs.Numbers.{merged, NoneAboveZero, BestStrict, ForbidsStrictly}
+use Rattle.grading.specs.Numbers.{merged, BestStrict, ForbidsStrictly}
 
 abbrev pairs : Ghosts (Pair Whole Units)
 pairs = pair_scale whole_scale unit_scale

@@ -1,14 +1,13 @@
 -- The turns of the relaxation's loops, and what its rounds come to. Assumes nothing.
-use Rattle.std.proofs.Common.{◌≡◌, ℕ, zero, suc, ◌+◌, ◌-◌, ◌*◌, ◌<◌, ◌≤◌, Bool, true, false, cond, ◌&&◌, List, length, get_or, set, sym, refl, ap, ◌∙◌, subst, add-zero, add-suc, zero-add, add-one, arith, rules, below_more}
+use Rattle.std.proofs.Common.{◌≡◌, ℕ, suc, ◌+◌, ◌-◌, ◌*◌, ◌<◌, ◌≤◌, Bool, true, false, cond, ◌&&◌, List, length, get_or, set, sym, ap, ◌∙◌, subst, zero-add, add-one, arith, rules, below_more}
 use borrow.Rule.Slice.PartMut.{put_mid}
 use Rattle.std.proofs.lemmas.List.{places}
 use Rattle.std.proofs.lemmas.List.Edits.{fill_by_more}
 use Rattle.scale.specs.declared.scale.Scale.{Ghosts}
 use Rattle.scale.specs.Scales.{Lawful}
-use Rattle.paths.specs.Steps.{Steps, Meets}
+use Rattle.paths.specs.Steps.{Steps}
 use Rattle.paths.specs.Levels.{pick, reach, chosen, level}
 use Rattle.paths.specs.Walks.{Walk}
-use Rattle.paths.specs.Descents.{Falls}
 use Rattle.paths.proofs.Layers.{level_at_most, level_down, settled}
 use Rattle.paths.proofs.Turns.{reach_none, chosen_none, reach_more, chosen_more, reach_same, chosen_same, level_none, level_more}
 use Rattle.paths.proofs.Walking.{walk_longer, level_walk, walk_extent}

@@ -1,15 +1,13 @@
 -- From the solved problem to the view that it spells. Assumes nothing.
-use Rattle.std.proofs.Common.{◌≡◌, ℕ, ◌+◌, ◌-◌, ◌<◌, ◌≤◌, Bool, true, false, cond, ◌&&◌, ◌||◌, leb, List, length, get_or, take, sym, refl, ap, ◌∙◌, subst, ap₂, ⊎_elim, arith}
+use Rattle.std.proofs.Common.{◌≡◌, ℕ, ◌-◌, ◌<◌, ◌≤◌, Bool, true, false, cond, ◌&&◌, ◌||◌, leb, List, length, take, sym, ap, ◌∙◌, subst, ap₂, ⊎_elim, arith}
 use Rattle.std.proofs.lemmas.Bool.{cases_lt, and_parts, leb-true}
 use Rattle.model.specs.declared.thresholds.Thresholds.{Thresholds}
-use Rattle.model.specs.Limits.{within_limits}
-use Rattle.model.specs.Sets.{has}
-use Rattle.model.specs.Views.{View, is_mark, is_step}
+use Rattle.model.specs.Views.{View, is_mark}
 use Rattle.model.proofs.Steps.{step_stands, step_head}
 use Rattle.model.proofs.Digits.{has_beyond}
 use Rattle.scale.specs.declared.scale.Scale.{Ghosts}
 use Rattle.scale.specs.Scales.{Lawful}
-use Rattle.paths.specs.Steps.{Steps, SameSteps, value, view_steps, Meets}
+use Rattle.paths.specs.Steps.{SameSteps, value, view_steps, Meets}
 use Rattle.paths.specs.Walks.{Walk}
 use Rattle.paths.specs.Bests.{Best, Forbids}
 use Rattle.paths.specs.Descents.{Loop, Written}

@@ -1,5 +1,5 @@
 -- Rows of bits that draw what stands and its steps. Assumes nothing.
-use Rattle.std.specs.Prelude.{◌≡◌, ℕ, ◌<◌, Bool, true, false, cond, not, ◌&&◌, ◌||◌, List, length, ◌==◌, nat_lt, slice_index}
+use Rattle.std.specs.Prelude.{◌≡◌, ℕ, ◌<◌, Bool, not, ◌&&◌, List, length, ◌==◌, nat_lt, slice_index}
 use Rattle.model.specs.Sets.{has}
 use Rattle.model.specs.Views.{View, is_mark, is_hop}
 use Rattle.grading.specs.declared.graph.Graph.{Graph}

@@ -1,5 +1,5 @@
 -- The outcomes of loose, strict and unit grading. Assumes nothing.
-use Rattle.std.specs.Prelude.{ℕ, List, pos, Result}
+use Rattle.std.specs.Prelude.{pos, Result}
 use Rattle.model.specs.declared.decline.Decline.{Decline}
 use Rattle.model.specs.declared.thresholds.Thresholds.{Thresholds}
 use Rattle.model.specs.Views.{View}

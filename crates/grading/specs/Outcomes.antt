@@ -1,5 +1,5 @@
 -- What a grading call answers, and what it leaves in the memory that was brought. Assumes nothing.
-use Rattle.std.specs.Prelude.{◌≡◌, ℕ, ◌<◌, ◌≤◌, Bool, true, false, ◌&&◌, List, length, get_or, take, Some, None, Ok, Err, MatchBool, Option, Result, nat_le, slice_index, slice_index_or}
+use Rattle.std.specs.Prelude.{◌≡◌, ℕ, ◌<◌, ◌≤◌, Bool, false, ◌&&◌, List, length, get_or, take, Some, None, Ok, Err, MatchBool, Option, Result, nat_le, slice_index, slice_index_or}
 use Rattle.model.specs.declared.decline.Decline.{Decline}
 use Rattle.model.specs.declared.thresholds.Thresholds.{Thresholds}
 use Rattle.model.specs.Limits.{within_limits}

@@ -1,5 +1,5 @@
 -- What one try, one record and one round of the relaxation make. Assumes nothing.
-use Rattle.std.specs.Prelude.{◌≡◌, ℕ, ◌<◌, Bool, true, false, cond, ◌&&◌, List, slice_index}
+use Rattle.std.specs.Prelude.{◌≡◌, ℕ, ◌<◌, true, false, cond, ◌&&◌, List, slice_index}
 use Rattle.scale.specs.declared.scale.Scale.{Ghosts}
 use Rattle.paths.specs.Steps.{Steps}
 use Rattle.paths.specs.Levels.{pick, reach, chosen}

@@ -1,5 +1,5 @@
 -- What rounds of relaxation come to. Assumes nothing.
-use Rattle.std.specs.Prelude.{◌≡◌, ℕ, suc, ◌+◌, ◌*◌, ◌<◌, ◌≤◌, Bool, true, false, List, slice_index}
+use Rattle.std.specs.Prelude.{◌≡◌, ℕ, ◌+◌, ◌*◌, ◌<◌, false, List, slice_index}
 use Rattle.scale.specs.declared.scale.Scale.{Ghosts}
 use Rattle.paths.specs.Steps.{Steps, Meets}
 use Rattle.paths.specs.Levels.{chosen, level}

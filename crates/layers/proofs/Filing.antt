@@ -1,17 +1,15 @@
 -- The calls of a folder over a sheet, by those below. Assumes nothing.
-use Rattle.std.proofs.Common.{◌≡◌, ℕ, zero, suc, ◌+◌, ◌-◌, ◌≤◌, Bool, true, false, cond, ◌&&◌, ◌||◌, eqb, ltb, ◌⊎◌, Result, sym, refl, ap, ◌∙◌, subst, inl, inr, zero-le, le_refl, arith}
+use Rattle.std.proofs.Common.{◌≡◌, ℕ, ◌+◌, ◌-◌, Bool, true, false, cond, ◌&&◌, eqb, ltb, Result, sym, refl, ap, ◌∙◌, subst, arith}
 use mathlib.Core.Path.{fun_ext}
 use Rattle.std.proofs.lemmas.Bool.{and_parts, eqb-true, ne_eqb}
 use Rattle.model.specs.declared.decline.Decline.{Decline}
-use Rattle.model.specs.Refusals.{number_of, answer_number}
-use Rattle.model.specs.Rings.{bit, sum_to}
 use Rattle.model.specs.Sets.{has, put}
 use Rattle.sheet.specs.declared.state.State.{State}
 use Rattle.sheet.specs.declared.state.State.TheVariants.{Absent, Standing, Aside}
-use Rattle.sheet.specs.States.{is_absent, is_aside, is_standing}
-use Rattle.sheet.specs.Meanings.{Meaning, Lawful, pairs}
+use Rattle.sheet.specs.States.{is_aside, is_standing}
+use Rattle.sheet.specs.Meanings.{Meaning, Lawful}
 use Rattle.sheet.specs.Checks.{enter_check, pair_check, mark_check, strike_check}
-use Rattle.sheet.specs.Calls.{put_state, put_mark, entered, marked, struck, after_check, Called}
+use Rattle.sheet.specs.Calls.{put_state, put_mark, entered, marked, struck, Called}
 use Rattle.sheet.proofs.Checking.{Clear, clash, called_by, pair_clear, pair_open}
 use Rattle.layers.specs.Folders.{Filed, filed_state, filed_states, filed_marks, seen, entered_in, marked_in, struck_in}
 

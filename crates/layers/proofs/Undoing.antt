@@ -6,8 +6,8 @@ use Rattle.model.specs.Sets.{put}
 use Rattle.sheet.specs.declared.state.State.{State}
 use Rattle.sheet.specs.declared.state.State.TheVariants.{Absent, Standing, Aside}
 use Rattle.sheet.specs.States.{is_absent, is_aside}
-use Rattle.layers.specs.Folders.{Filed, filed_state, aside_check}
-use Rattle.layers.specs.Statements.{AsideAndBack, Undone}
+use Rattle.layers.specs.Folders.{filed_state}
+use Rattle.layers.specs.Statements.{AsideAndBack}
 
 -- a number that passes the checks of set aside is a record that stands in the folder
 pub record Settable (own : Bool) (s : State) (above : Bool) : Type 0 where

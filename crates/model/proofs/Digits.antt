@@ -1,13 +1,11 @@
 -- The bits of a word, one by one and counted. Assumes nothing.
-use Rattle.std.proofs.Common.{◌≡◌, ℕ, zero, suc, ◌+◌, ◌-◌, ◌*◌, ◌/◌, ◌%◌, ◌^◌, ◌<◌, ◌≤◌, Bool, true, false, cond, ◌&&◌, eqb, ltb, ◌⊎◌, sym, refl, ap, ◌∙◌, subst, ap₂, inl, inr, mod-lt, mul_assoc, mul_comm, one-mul, pow-suc, div-one, add-one, one-add, arith, pow-add, shr-shr, shr_lt}
+use Rattle.std.proofs.Common.{◌≡◌, ℕ, zero, suc, ◌+◌, ◌-◌, ◌/◌, ◌%◌, ◌^◌, ◌<◌, ◌≤◌, Bool, true, false, ◌&&◌, eqb, ltb, ◌⊎◌, sym, refl, ap, ◌∙◌, subst, inl, inr, one-mul, pow-suc, div-one, add-one, one-add, arith, pow-add, shr-shr, shr_lt}
 use mathlib.Core.Path.{fun_ext}
-use native.Mathlib.Nat.{zero-div, mul-mod_left, div-eq_of_lt, div-eq_of_eq-mul_left}
-use lib.Bits.{bit_and, bit_or, bit_xor, or_shr, or_mod, xor_shr, xor_mod, or_zero_r, xor_zero_r, and_mask}
+use native.Mathlib.Nat.{zero-div, mul-mod_left, div-eq_of_lt}
+use lib.Bits.{bit_or, bit_xor, or_shr, or_mod, xor_shr, xor_mod, or_zero_r, xor_zero_r}
 use lib.Pow.{pow-lt, shl-shr}
 use lib.Count.{ones, ones_step}
-use Rattle.std.proofs.lemmas.Nat.{pow_pos, one_shl}
-use Rattle.std.proofs.lemmas.Bool.{cases_lt, cases_eq, cases_order, lt-ltb, le-ltb, ltb-true, eq-eqb, ne_eqb, eqb-true, and_parts, cases_Bool}
-use Rattle.std.proofs.lemmas.Bool.Decides.{nat_tests}
+use Rattle.std.proofs.lemmas.Bool.{cases_lt, cases_eq, lt-ltb, le-ltb, ltb-true, eq-eqb, ne_eqb, eqb-true, and_parts}
 use Rattle.model.specs.Rings.{bit, sum_to}
 use Rattle.model.specs.Sets.{has, put}
 use Rattle.model.proofs.Sums.{sum_same, sum_front}

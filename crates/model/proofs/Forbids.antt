@@ -1,13 +1,12 @@
 -- What a ring forbids. Assumes nothing.
-use Rattle.std.proofs.Common.{◌≡◌, ℕ, zero, suc, ◌+◌, ◌*◌, ◌<◌, ◌≤◌, Bool, true, false, ◌||◌, List, length, get_or, ℤ, pos, ◌+ℤ◌, ◌-ℤ◌, ◌≤ℤ◌, sym, refl, ap, ◌∙◌, subst, ap₂, mul_comm, add-mul, mul-le-mul_left, one-mul, zero-mul, mul-one, mul-add, mul_left_comm, arith}
+use Rattle.std.proofs.Common.{◌≡◌, ℕ, zero, suc, ◌+◌, ◌*◌, ◌≤◌, true, false, ◌||◌, List, length, ℤ, pos, ◌+ℤ◌, ◌≤ℤ◌, refl, ap, add-mul, mul-le-mul_left, zero-mul, mul-add, mul_left_comm, arith}
 use borrow.Author.Differences.{ints}
 use Rattle.model.specs.declared.step.Step.{Step}
 use Rattle.model.specs.declared.step.Step.TheVariants.{Mark, Hop, NoStep}
-use Rattle.model.specs.Views.{View, step, marks, hops, is_mark, is_hop, is_step}
+use Rattle.model.specs.Views.{View, step, marks, hops}
 use Rattle.model.specs.Rings.{sum_to, bit, marks_in, hops_in, round, marks_of, hops_of, Cycle}
 use Rattle.model.specs.Gradings.{Graded}
 use Rattle.model.specs.Statements.{RingForbidsLoose, RingForbidsStrict}
-use Rattle.model.proofs.Sums.{sum_none, sum_suc}
 use Rattle.model.proofs.Steps.{clash}
 use Rattle.model.proofs.Rounds.{round_below, round_steps, round_end}
 

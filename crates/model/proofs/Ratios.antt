@@ -1,5 +1,5 @@
 -- The least ratio, by a ring that has it and a grading at it; and with fewer records. Assumes nothing.
-use Rattle.std.proofs.Common.{◌≡◌, ℕ, zero, suc, ◌+◌, ◌*◌, ◌<◌, ◌≤◌, ◌⊎◌, List, length, ℤ, pos, ◌+ℤ◌, ◌*ℤ◌, ◌≤ℤ◌, sym, ap, ◌∙◌, subst, subst₂, inl, inr, ⊎_elim, add-zero, mul_assoc, suc-mul, mul_comm, mul-le-mul_left, zero-mul, mul_left_comm, arith}
+use Rattle.std.proofs.Common.{◌≡◌, ℕ, zero, suc, ◌+◌, ◌*◌, ◌<◌, ◌≤◌, List, length, ℤ, pos, ◌+ℤ◌, ◌*ℤ◌, ◌≤ℤ◌, sym, ap, ◌∙◌, subst, subst₂, inl, inr, ⊎_elim, add-zero, mul_assoc, suc-mul, mul_comm, mul-le-mul_left, zero-mul, mul_left_comm, arith}
 use borrow.Author.Differences.{ints}
 use lib.IntN.{zero-*ℤ, suc_ℤ-*ℤ}
 use Rattle.std.proofs.lemmas.Bool.{cases_lt}

@@ -1,9 +1,9 @@
 -- Rings read round. Assumes nothing.
-use Rattle.std.proofs.Common.{◌≡◌, ℕ, zero, suc, ◌+◌, ◌-◌, ◌*◌, ◌%◌, ◌<◌, ◌≤◌, Bool, true, false, ◌⊎◌, List, length, get_or, sym, refl, ap, ◌∙◌, subst, ap₂, subst₂, inl, inr, ⊎_elim, add-zero, add-suc, mod-lt, mod-eq_of_lt, suc-add, zero-add, add-one, arith}
-use native.Mathlib.Nat.{mod-eq-sub-mod, add-mod-mod, mod_self, add-mod_right, mod-add-mod}
-use Rattle.std.proofs.lemmas.Bool.{cases_lt, cases_order, cases_eq}
-use Rattle.model.specs.Views.{View, two, step, is_mark, is_hop, is_step, Within}
-use Rattle.model.specs.Rings.{sum_to, bit, marks_in, hops_in, round, marks_of, hops_of, Cycle, Ring, Turned}
+use Rattle.std.proofs.Common.{◌≡◌, ℕ, suc, ◌+◌, ◌-◌, ◌%◌, ◌<◌, ◌≤◌, true, ◌⊎◌, List, length, get_or, sym, ap, ◌∙◌, subst, ap₂, subst₂, inl, inr, ⊎_elim, mod-lt, mod-eq_of_lt, zero-add, add-one, arith}
+use native.Mathlib.Nat.{mod-eq-sub-mod, add-mod-mod, add-mod_right, mod-add-mod}
+use Rattle.std.proofs.lemmas.Bool.{cases_lt, cases_order}
+use Rattle.model.specs.Views.{View, step, is_mark, is_hop, is_step, Within}
+use Rattle.model.specs.Rings.{sum_to, bit, round, marks_of, hops_of, Cycle, Ring, Turned}
 use Rattle.model.specs.Statements.{SameCycle, SameRing}
 use Rattle.model.proofs.Sums.{sum_same, sum_shift, sum_plus, sum_ones}
 use Rattle.model.proofs.Steps.{counted, step_two, step_within}

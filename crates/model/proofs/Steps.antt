@@ -1,9 +1,9 @@
 -- What a step tells of its two records. Assumes nothing.
-use Rattle.std.proofs.Common.{◌≡◌, ℕ, suc, ◌+◌, Bool, true, false, cond, not, ◌&&◌, ◌||◌, T, eqb, sym, refl, ap, ◌∙◌, subst, ap₂, arith}
-use Rattle.std.proofs.lemmas.Bool.{eqb-true, eqb-false, eq-eqb, ne_eqb, and_parts, and_from, cases_Bool}
+use Rattle.std.proofs.Common.{◌≡◌, ℕ, ◌+◌, Bool, true, false, cond, not, ◌&&◌, ◌||◌, T, eqb, sym, refl, ap, ◌∙◌, subst}
+use Rattle.std.proofs.lemmas.Bool.{eq-eqb, ne_eqb, and_parts}
 use Rattle.model.specs.declared.step.Step.{Step}
 use Rattle.model.specs.declared.step.Step.TheVariants.{Mark, Hop, NoStep}
-use Rattle.model.specs.Views.{View, two, step, marks, hops, is_mark, is_hop, is_step, Within}
+use Rattle.model.specs.Views.{View, two, step, marks, hops, is_hop, is_step, Within}
 use Rattle.model.specs.Rings.{bit}
 
 pub clash : (b : Bool) → b ≡ true → b ≡ false → ⊥

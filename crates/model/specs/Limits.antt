@@ -1,5 +1,5 @@
 -- The limits of the thresholds. Assumes nothing.
-use Rattle.std.specs.Prelude.{ℕ, Bool, ◌&&◌, nat_le}
+use Rattle.std.specs.Prelude.{Bool, ◌&&◌, nat_le}
 use Rattle.model.specs.declared.thresholds.Thresholds.{Thresholds}
 
 -- t1 is from 1 to 1,000,000, t2 from 0 to 1,000,000

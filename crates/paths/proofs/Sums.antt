@@ -1,5 +1,5 @@
 -- Sums of marks' and hops' values: they go by how often each comes, and round a ring they bound what can be met. Assumes nothing.
-use Rattle.std.proofs.Common.{◌≡◌, ℕ, zero, suc, ◌+◌, Bool, true, false, cond, not, List, length, sym, refl, ap, ◌∙◌, subst, ap₂, add-zero, add-one}
+use Rattle.std.proofs.Common.{◌≡◌, ℕ, zero, suc, ◌+◌, Bool, true, false, cond, not, List, length, sym, ap, ◌∙◌, subst, add-zero, add-one}
 use Rattle.model.specs.declared.thresholds.Thresholds.{Thresholds}
 use Rattle.model.specs.Views.{View, step, is_mark, is_hop}
 use Rattle.model.specs.Rings.{sum_to, bit, round, marks_of, hops_of, Cycle}
@@ -11,7 +11,6 @@ use Rattle.scale.specs.Scales.{Lawful}
 use Rattle.scale.proofs.Order.{clash, le_trans, le_plus, lt_plus}
 use Rattle.paths.specs.Steps.{value, view_steps, Meets}
 use Rattle.paths.specs.Walks.{total, sum_round}
-use Rattle.paths.specs.Bests.{Forbids}
 use Rattle.paths.specs.Statements.{BelowForbids}
 
 -- a, n times

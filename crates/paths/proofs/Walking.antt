@@ -1,15 +1,12 @@
 -- Walks: each layer is the sum of one, and what their sums are bounded by. Assumes nothing.
-use Rattle.std.proofs.Common.{◌≡◌, ℕ, zero, suc, ◌+◌, ◌<◌, ◌≤◌, Bool, true, false, ◌||◌, sym, ◌∙◌, subst, one-add, arith}
-use Rattle.model.specs.declared.thresholds.Thresholds.{Thresholds}
-use Rattle.model.specs.Views.{View, is_mark, is_hop}
+use Rattle.std.proofs.Common.{ℕ, zero, suc, ◌+◌, ◌<◌, ◌≤◌, sym, ◌∙◌, subst, one-add, arith}
 use Rattle.model.proofs.Steps.{step_head}
 use Rattle.scale.specs.declared.scale.Scale.{Ghosts}
 use Rattle.scale.specs.Scales.{Lawful}
 use Rattle.scale.proofs.Order.{le_trans, le_plus}
-use Rattle.paths.specs.Steps.{Steps, SameSteps, view_steps, Meets}
+use Rattle.paths.specs.Steps.{Steps, SameSteps, view_steps}
 use Rattle.paths.specs.Levels.{level}
 use Rattle.paths.specs.Walks.{Walk, stop, go}
-use Rattle.paths.specs.Bests.{NoneAbove}
 use Rattle.paths.specs.Statements.{WalksBound}
 use Rattle.paths.proofs.Layers.{reach_keeps}
 use Rattle.paths.proofs.Turns.{level_none, level_more}

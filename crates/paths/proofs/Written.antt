@@ -1,5 +1,5 @@
 -- The ring that is written from a walk: it is a ring of the view, and forbids on the scale. Assumes nothing.
-use Rattle.std.proofs.Common.{◌≡◌, ℕ, zero, suc, ◌+◌, ◌-◌, ◌%◌, ◌<◌, ◌≤◌, Bool, true, false, cond, not, List, length, get_or, take, sym, ap, ◌∙◌, subst, ap₂, subst₂, ⊎_elim, mod-lt, mod-eq_of_lt, zero-add, arith, length-take-le, get_or-take}
+use Rattle.std.proofs.Common.{◌≡◌, ℕ, zero, suc, ◌+◌, ◌-◌, ◌%◌, ◌<◌, ◌≤◌, Bool, true, cond, not, List, length, get_or, take, sym, ap, ◌∙◌, subst, ap₂, subst₂, ⊎_elim, mod-lt, mod-eq_of_lt, zero-add, arith, length-take-le, get_or-take}
 use Rattle.std.proofs.lemmas.Bool.{cases_lt, cases_eq}
 use Rattle.model.specs.declared.thresholds.Thresholds.{Thresholds}
 use Rattle.model.specs.Views.{View, step, is_mark, is_hop, is_step}
@@ -9,7 +9,7 @@ use Rattle.model.proofs.Steps.{step_apart, step_stands, other}
 use Rattle.model.proofs.Rounds.{turned, round_steps}
 use Rattle.scale.specs.declared.scale.Scale.{Ghosts}
 use Rattle.scale.specs.Scales.{Lawful}
-use Rattle.paths.specs.Steps.{Steps, SameSteps, value, view_steps}
+use Rattle.paths.specs.Steps.{Steps, SameSteps, view_steps}
 use Rattle.paths.specs.Walks.{total, sum_round}
 use Rattle.paths.specs.Bests.{Forbids}
 use Rattle.paths.specs.Descents.{Loop, Written}

@@ -1,10 +1,10 @@
 -- The best values of what stands on a scale, and what forbids them. Assumes nothing.
-use Rattle.std.specs.Prelude.{◌≡◌, ℕ, ◌<◌, Bool, true, false, List}
+use Rattle.std.specs.Prelude.{◌≡◌, ℕ, ◌<◌, true, false, List}
 use Rattle.model.specs.declared.thresholds.Thresholds.{Thresholds}
 use Rattle.model.specs.Views.{View}
 use Rattle.model.specs.Rings.{Ring}
 use Rattle.scale.specs.declared.scale.Scale.{Ghosts}
-use Rattle.paths.specs.Steps.{Steps, view_steps, Meets}
+use Rattle.paths.specs.Steps.{view_steps, Meets}
 use Rattle.paths.specs.Walks.{Walk, sum_round}
 
 -- no standing record has a value above nothing

@@ -1,5 +1,5 @@
 -- The statements that lib.rt names. Assumes nothing.
-use Rattle.std.specs.Prelude.{◌≡◌, ℕ, ◌<◌, Bool, true, false, List}
+use Rattle.std.specs.Prelude.{◌≡◌, ℕ, ◌<◌, true, false, List}
 use Rattle.model.specs.declared.thresholds.Thresholds.{Thresholds}
 use Rattle.model.specs.Views.{View}
 use Rattle.scale.specs.declared.scale.Scale.{Ghosts}

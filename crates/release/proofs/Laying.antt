@@ -6,7 +6,7 @@ use Rattle.model.specs.Views.{View}
 use Rattle.form.specs.Contents.{Contents}
 use Rattle.form.specs.Laid.{alone, of_pair, of_two, laid_out}
 use Rattle.release.specs.declared.draft.Draft.{Draft}
-use Rattle.release.specs.Drafts.{written, Adds, DraftOf}
+use Rattle.release.specs.Drafts.{Adds, DraftOf}
 use Rattle.release.specs.Sections.{one_if, records_below, depths_below}
 use Rattle.release.proofs.Adding.{adds_then, adds_as}
 

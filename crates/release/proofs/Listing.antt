@@ -1,5 +1,5 @@
 -- One number more of a section. Assumes nothing.
-use Rattle.std.proofs.Common.{◌≡◌, ℕ, ◌+◌, ◌*◌, ◌≤◌, Bool, true, false, List, ◌++◌, length, ℤ, nat_abs, refl, ap, ◌∙◌, add-one, arith, length-append}
+use Rattle.std.proofs.Common.{◌≡◌, ℕ, ◌+◌, ◌≤◌, Bool, true, false, List, ◌++◌, length, ℤ, nat_abs, refl, ap, ◌∙◌, add-one, arith, length-append}
 use Rattle.std.specs.List.{flat_map}
 use Rattle.model.specs.Rings.{bit}
 use Rattle.model.specs.Views.{View}

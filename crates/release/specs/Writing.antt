@@ -1,7 +1,7 @@
 -- What writing a release answers, and what it leaves in the memory and the output bytes that were brought. Assumes nothing.
 use Rattle.std.specs.Prelude.{◌≡◌, ℕ, ◌<◌, ◌≤◌, List, ◌++◌, length, take, drop, Ok, Err, MatchBool, Result}
 use Rattle.model.specs.declared.decline.Decline.{Decline}
-use Rattle.model.specs.Refusals.{number_of, ring_length, answer_number}
+use Rattle.model.specs.Refusals.{number_of, ring_length}
 use Rattle.model.specs.Rings.{Circle}
 use Rattle.model.specs.Views.{View}
 use Rattle.scale.specs.declared.whole.Whole.{Whole}

@@ -1,5 +1,5 @@
 -- What the laws of a scale give of its order. Assumes nothing.
-use Rattle.std.proofs.Common.{◌≡◌, ℕ, Bool, true, false, sym, refl, ap, ◌∙◌, subst, ap₂}
+use Rattle.std.proofs.Common.{◌≡◌, Bool, true, false, sym, refl, ap, ◌∙◌, subst, ap₂}
 use Rattle.scale.specs.declared.scale.Scale.{Ghosts}
 use Rattle.scale.specs.Scales.{Lawful}
 pub use Rattle.model.proofs.Steps.{clash}

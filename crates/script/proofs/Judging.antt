@@ -1,5 +1,5 @@
 -- A whole script, put together from its lines, their calls and the answers. Assumes nothing.
-use Rattle.std.proofs.Common.{◌≡◌, ℕ, zero, suc, ◌<◌, List, [], ◌∷◌, ◌++◌, length, get_or, take, drop, codes, sym, refl, ap, ◌∙◌, subst, ap₂, arith}
+use Rattle.std.proofs.Common.{◌≡◌, ℕ, zero, suc, ◌<◌, List, [], ◌∷◌, ◌++◌, get_or, take, drop, codes, refl, ap, ◌∙◌, subst, ap₂}
 use Rattle.std.specs.List.{flat_map}
 use Rattle.sheet.specs.Meanings.{Meaning}
 use Rattle.archive.specs.declared.call.Call.{Call}

@@ -1,14 +1,11 @@
 -- Every answer of the archive is printable. Assumes nothing.
-use Rattle.std.proofs.Common.{◌≡◌, ℕ, zero, suc, ◌+◌, ◌*◌, ◌<◌, ◌≤◌, Bool, true, false, ◌⊎◌, List, [], ◌∷◌, ◌++◌, length, get_or, take, nat_abs, vec_items, vec_len, Vec, sym, refl, ap, ◌∙◌, subst, subst₂, inl, inr, ⊎_elim, arith, length-append}
+use Rattle.std.proofs.Common.{◌≡◌, ℕ, zero, suc, ◌<◌, ◌≤◌, Bool, true, false, List, [], ◌∷◌, ◌++◌, length, get_or, vec_items, vec_len, Vec, sym, refl, subst, ⊎_elim, arith, length-append}
 use Rattle.std.specs.declared.alloc.Global.{Global}
 use Rattle.std.proofs.lemmas.List.{get_or_past}
 use Rattle.std.proofs.lemmas.Bool.{cases_lt}
 use Rattle.model.specs.declared.thresholds.Thresholds.{Thresholds}
 use Rattle.model.specs.Views.{View}
 use Rattle.model.specs.Rings.{Ring}
-use Rattle.scale.specs.declared.whole.Whole.{Whole}
-use Rattle.scale.specs.declared.unit.Unit.{Unit as Unit-value}
-use Rattle.scale.specs.declared.pair.Pair.{Pair}
 use Rattle.scale.specs.Wholes.{WholeExtent}
 use Rattle.scale.specs.Units.{UnitExtent}
 use Rattle.scale.specs.Pairs.{PairExtent}
@@ -16,11 +13,9 @@ use Rattle.scale.specs.Numbers.{low, near}
 use Rattle.paths.proofs.Pigeons.{pigeons}
 use Rattle.sheet.specs.Meanings.{Meaning}
 use Rattle.sheet.specs.Views.{view_in}
-use Rattle.grading.specs.Numbers.{BestLoose, ForbidsLoosely, BestStrict, ForbidsStrictly}
 use Rattle.archive.specs.declared.call.Call.{Call}
 use Rattle.archive.specs.declared.call.Call.TheVariants.{Enter, Mark, Strike, Loose, Strict, Unit as Units-call, Wrong}
 use Rattle.archive.specs.declared.answer.Answer.{Answer}
-use Rattle.archive.specs.declared.answer.Answer.TheVariants.{Taken, Declined, Forced, Wholes, Pairs, Units}
 use Rattle.archive.specs.declared.answer.Graded.{Graded}
 use Rattle.archive.specs.Listed.{entry, listed}
 use Rattle.archive.specs.Told.{outside, forced, given, LooseTold, StrictTold, UnitTold}

@@ -1,5 +1,5 @@
 -- The makes of sheets by name, and what a new one means. Assumes nothing.
-use Rattle.std.specs.Prelude.{◌≡◌, ℕ, List, codes, ◌≢◌}
+use Rattle.std.specs.Prelude.{ℕ, List, codes, ◌≢◌}
 use Rattle.sheet.specs.Meanings.{Meaning, empty}
 use Rattle.script.specs.declared.make.Make.{Make}
 use Rattle.script.specs.declared.make.Make.TheVariants.{Bits}

@@ -1,12 +1,12 @@
 -- A make that keeps a word of present records and a table of marks: what its calls owe. Assumes nothing.
-use Rattle.std.proofs.Common.{◌≡◌, ℕ, zero, suc, ◌+◌, ◌-◌, ◌≤◌, Bool, true, false, cond, eqb, Ok, Result, sym, refl, ap, ◌∙◌, arith}
+use Rattle.std.proofs.Common.{◌≡◌, ℕ, zero, suc, ◌+◌, ◌-◌, Bool, true, false, cond, eqb, Ok, Result, sym, refl, ap, ◌∙◌}
 use mathlib.Core.Path.{fun_ext}
 use Rattle.std.proofs.lemmas.Bool.{both_ways, ne_eqb}
 use Rattle.model.specs.declared.decline.Decline.{Decline}
 use Rattle.model.specs.Sets.{has, put}
-use Rattle.model.proofs.Digits.{has_beyond, has_zero}
+use Rattle.model.proofs.Digits.{has_zero}
 use Rattle.sheet.specs.declared.state.State.TheVariants.{Absent, Standing}
-use Rattle.sheet.specs.Meanings.{Lawful, pairs, empty}
+use Rattle.sheet.specs.Meanings.{empty}
 use Rattle.sheet.specs.Checks.{entry_check, enter_check, pair_check, mark_check, strike_check}
 use Rattle.sheet.specs.Calls.{put_state, put_mark, entered, marked, struck, after_check, Called}
 use Rattle.sheet.specs.Kept.{present_states, kept_meaning, Irreflexive, PresentFrom, PresentTo}

@@ -1,5 +1,5 @@
 -- The checks of the calls, in their order: the number of the first that fails, or 0. Assumes nothing.
-use Rattle.std.specs.Prelude.{ℕ, Bool, cond, ◌||◌, ◌==◌, nat_lt}
+use Rattle.std.specs.Prelude.{ℕ, cond, ◌||◌, ◌==◌, nat_lt}
 use Rattle.sheet.specs.declared.state.State.{State}
 use Rattle.sheet.specs.States.{is_absent, is_aside, is_standing}
 use Rattle.sheet.specs.Meanings.{Meaning}

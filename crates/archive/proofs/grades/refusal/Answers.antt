@@ -1,7 +1,6 @@
-use Rattle.std.proofs.Common.{◌≡◌, ℕ, ◌-◌, List, take, vec_items, sym, refl, ap, ◌∙◌, subst, arith}
+use Rattle.std.proofs.Common.{◌≡◌, ℕ, ◌-◌, take, sym, refl, ap, ◌∙◌, subst, arith}
 use Rattle.model.specs.declared.decline.Decline.{Decline}
-use Rattle.model.specs.Refusals.{number_of, ring_length}
-use Rattle.archive.specs.declared.answer.Answer.{Answer}
+use Rattle.model.specs.Refusals.{ring_length}
 use Rattle.archive.specs.declared.answer.Answer.TheVariants.{Forced}
 use Rattle.archive.specs.Told.{Refused, plain, forced}
 use Rattle.archive.proofs.Telling.{only_forbidden}

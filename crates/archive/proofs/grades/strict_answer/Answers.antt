@@ -1,4 +1,4 @@
-use Rattle.std.proofs.Common.{◌≡◌, ◌≤◌, replicate, pos, refl, arith}
+use Rattle.std.proofs.Common.{◌≤◌, replicate, pos, refl, arith}
 use Rattle.model.specs.Refusals.{ring_length}
 use Rattle.sheet.specs.Views.{view_of}
 use Rattle.scale.specs.Wholes.{of_whole}

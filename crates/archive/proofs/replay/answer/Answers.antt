@@ -1,4 +1,4 @@
-use Rattle.std.proofs.Common.{◌≡◌, IfOk, sym, refl, ap, ◌∙◌, subst}
+use Rattle.std.proofs.Common.{IfOk, sym, refl, ap, ◌∙◌, subst}
 use Rattle.model.specs.declared.decline.Decline.TheVariants.{WrongLine}
 use Rattle.sheet.specs.Views.{meaning_of}
 use Rattle.archive.specs.declared.call.Call.{Call}

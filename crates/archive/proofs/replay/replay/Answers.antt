@@ -1,4 +1,4 @@
-use Rattle.std.proofs.Common.{◌≡◌, ℕ, ◌+◌, ◌<◌, ◌≤◌, length, get_or, take, vec_items, vec_len, sym, refl, ap, ◌∙◌, subst, arith, take_all}
+use Rattle.std.proofs.Common.{ℕ, get_or, take, vec_items, sym, refl, ap, ◌∙◌, subst, arith, take_all}
 use Rattle.sheet.specs.Meanings.{Meaning}
 use Rattle.sheet.specs.Views.{meaning_of}
 use Rattle.archive.specs.declared.call.Call.TheVariants.{Enter}

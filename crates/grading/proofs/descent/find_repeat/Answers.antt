@@ -1,4 +1,4 @@
-use Rattle.std.proofs.Common.{◌≡◌, ◌+◌, ◌<◌, ◌≤◌, get_or, arith}
+use Rattle.std.proofs.Common.{◌+◌, ◌<◌, ◌≤◌, get_or, arith}
 use Rattle.paths.proofs.Pigeons.{pigeons}
 use Rattle.grading.proofs.descent.find_repeat.Goals as goal
 

@@ -1,4 +1,4 @@
-use Rattle.std.proofs.Common.{◌≡◌, ◌+◌, ◌-◌, ◌<◌, ◌≤◌, length, ◌∙◌, arith, length-set}
+use Rattle.std.proofs.Common.{◌+◌, ◌-◌, ◌<◌, ◌∙◌, arith, length-set}
 use Rattle.paths.proofs.Loops.{walk_start, walk_more}
 use Rattle.grading.specs.Problems.{problem_steps}
 use Rattle.grading.proofs.descent.walk_down.Goals as goal

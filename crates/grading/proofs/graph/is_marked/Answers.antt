@@ -1,4 +1,4 @@
-use Rattle.std.proofs.Common.{◌≡◌, Bool, true, false, ◌&&◌, sym, ap, ◌∙◌, ap₂}
+use Rattle.std.proofs.Common.{◌≡◌, Bool, true, false, ◌&&◌, sym, ap, ◌∙◌}
 use Rattle.model.specs.Views.{View, two}
 use Rattle.sheet.specs.Views.{view_of}
 use Rattle.grading.proofs.Collecting.{both_two, mark_by}

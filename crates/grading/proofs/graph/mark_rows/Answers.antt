@@ -1,4 +1,4 @@
-use Rattle.std.proofs.Common.{◌≡◌, ℕ, ◌<◌, length, refl, subst, arith}
+use Rattle.std.proofs.Common.{◌≡◌, ℕ, refl, subst, arith}
 use Rattle.sheet.specs.Views.{view_of}
 use Rattle.grading.specs.Graphs.{MarkRows}
 use Rattle.grading.proofs.Drawing.{rows_more}

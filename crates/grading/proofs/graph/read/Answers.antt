@@ -1,4 +1,4 @@
-use Rattle.std.proofs.Common.{◌≡◌, ◌<◌, length, refl, ◌∙◌, arith, length-set}
+use Rattle.std.proofs.Common.{◌<◌, length, refl, arith, length-set}
 use Rattle.sheet.specs.Views.{view_of}
 use Rattle.grading.specs.Graphs.{Collected, unmarked_from}
 use Rattle.grading.proofs.Drawing.{each_more, drawn}

@@ -1,4 +1,3 @@
-use Rattle.model.specs.Views.{is_mark}
 use Rattle.sheet.specs.Views.{view_of}
 use Rattle.grading.specs.Graphs.{Collected}
 use Rattle.grading.proofs.graph.standing_row.Given as goal

@@ -1,4 +1,4 @@
-use Rattle.std.proofs.Common.{◌≡◌, ◌+◌, ◌<◌, ◌≤◌, length, arith}
+use Rattle.std.proofs.Common.{◌+◌, ◌<◌, arith}
 use Rattle.paths.proofs.Loops.{loop_made}
 use Rattle.grading.specs.Problems.{problem_steps}
 use Rattle.grading.proofs.Rounds.{running_none, running_ready, running_more, fallen_made, settled_made}

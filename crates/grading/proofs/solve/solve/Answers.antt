@@ -1,4 +1,4 @@
-use Rattle.std.proofs.Common.{◌≡◌, ℕ, ◌-◌, ◌<◌, ◌≤◌, length, take, sym, refl, subst, arith}
+use Rattle.std.proofs.Common.{◌≡◌, ℕ, ◌-◌, ◌≤◌, length, take, sym, refl, subst, arith}
 use Rattle.paths.specs.Bests.{Forbids}
 use Rattle.grading.proofs.Spelling.{enough_parts, best_made, others_kept, forbids_shown}
 use Rattle.grading.proofs.solve.solve.Goals as goal

@@ -1,4 +1,4 @@
-use Rattle.std.proofs.Common.{◌≡◌, ◌*◌, ◌≤◌, length}
+use Rattle.std.proofs.Common.{◌≡◌, ◌≤◌, length}
 use Rattle.sheet.specs.Views.{view_of}
 use Rattle.release.specs.Sections.{records_below}
 use Rattle.release.proofs.count.count_records.Given as goal

@@ -1,11 +1,11 @@
-use Rattle.std.proofs.Common.{◌≡◌, ℕ, List, ap, ◌∙◌, subst, arith}
+use Rattle.std.proofs.Common.{◌≡◌, ℕ, subst, arith}
 use Rattle.std.specs.List.{flat_map}
 use Rattle.form.specs.Laid.{of_pair}
 use Rattle.release.specs.Sections.{marks_below}
 use Rattle.release.proofs.Listing.{marks_more}
 use Rattle.sheet.specs.Views.{view_of}
 use Rattle.release.specs.Drafts.{Adds}
-use Rattle.release.proofs.Adding.{adds_none, adds_as, adds_more}
+use Rattle.release.proofs.Adding.{adds_none, adds_more}
 use Rattle.release.proofs.sections.put_marks.Goals as goal
 
 pub loop-u-init : goal.loop-u-init

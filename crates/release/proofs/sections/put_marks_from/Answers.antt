@@ -1,4 +1,4 @@
-use Rattle.std.proofs.Common.{◌≡◌, ℕ, List, ap, ◌∙◌, subst, arith}
+use Rattle.std.proofs.Common.{◌≡◌, ℕ, ap, subst, arith}
 use Rattle.std.specs.List.{flat_map}
 use Rattle.form.specs.Laid.{of_pair}
 use Rattle.release.specs.Sections.{one_if, marks_from}

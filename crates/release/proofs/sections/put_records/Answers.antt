@@ -1,4 +1,4 @@
-use Rattle.std.proofs.Common.{◌≡◌, ℕ, List, ap, ◌∙◌, subst, arith}
+use Rattle.std.proofs.Common.{◌≡◌, ℕ, ap, ◌∙◌, subst, arith}
 use Rattle.sheet.specs.States.{is_standing}
 use Rattle.release.specs.Sections.{one_if, records_below}
 use Rattle.release.proofs.Listing.{records_more}

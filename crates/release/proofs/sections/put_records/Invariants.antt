@@ -1,4 +1,4 @@
-use Rattle.std.proofs.Common.{◌+◌, ◌*◌, ◌≤◌}
+use Rattle.std.proofs.Common.{◌+◌, ◌≤◌}
 use Rattle.release.specs.Sections.{records_below}
 use Rattle.sheet.specs.Views.{view_of}
 use Rattle.release.specs.Drafts.{Adds}

@@ -1,4 +1,4 @@
-use Rattle.std.proofs.Common.{◌≡◌, ℕ, ◌+◌, ◌<◌, List, length, get_or, take, sym, ap, ◌∙◌, subst, arith, take_all, rules}
+use Rattle.std.proofs.Common.{ℕ, List, take, subst, arith, take_all}
 use Rattle.std.proofs.lemmas.List.{take_more}
 use Rattle.release.specs.Drafts.{Adds}
 use Rattle.release.proofs.Adding.{adds_none, adds_more}

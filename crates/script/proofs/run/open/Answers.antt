@@ -1,4 +1,4 @@
-use Rattle.std.proofs.Common.{◌≡◌, vec_items, sym, refl, ◌∙◌, subst}
+use Rattle.std.proofs.Common.{◌≡◌, vec_items, refl, ◌∙◌, subst}
 use Rattle.std.proofs.lemmas.Result.{IfOk-weaker}
 use Rattle.sheet.specs.Meanings.{Meaning, empty}
 use Rattle.sheet.specs.Rows.{rows_meaning}

@@ -1,4 +1,4 @@
-use Rattle.std.proofs.Common.{◌≡◌, IfOk, vec_items, sym, subst}
+use Rattle.std.proofs.Common.{IfOk, vec_items, sym, subst}
 use Rattle.std.proofs.lemmas.Result.{err_from_is_err_and}
 use Rattle.sheet.specs.Views.{meaning_of}
 use Rattle.script.specs.Judged.{Opened}
