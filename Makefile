@@ -7,6 +7,6 @@ run:
 	@(cd crates/judge && rt run < ../../examples/campaign.txt) > target/answers 2> target/run.log || { tail -n 20 target/run.log; exit 1; }
 	@paste -d '|' examples/campaign.txt target/answers | sed 's/|/\t/' | expand -t 12
 
-# Every proof from nothing, every must-fail edit, every program and test; layout too, which rt ci judges.
+# Every proof, every must-fail edit, every program and test; layout too, which rt ci judges.
 test:
 	@tools/gate

@@ -77,9 +77,9 @@ module _ {V : Type 0} (w : View) (t : Thresholds) (asked : (ℕ → V) → Type 
   told_refused d x o = go (within_limits t) refl (inside (Err d) o) x
     where
       go : (b : Bool) → within_limits t ≡ b → MatchBool b ((number_of d ≡ 13) × Shown forbids (ring_length d) before after) (Declined 11 before after (Err d)) → (y : Answer) → Refused d (take (ring_length d) after.ring) y → Told w t asked forbids give y
-      go true l s y (plain no-ring) = absurd (no-ring s.0)
+      go true l s y (plain no_ring) = absurd (no_ring s.0)
       go true l s y (forced v is e) = told.forced d v is l (subst forbids (sym e) s.1.ring)
-      go false l s y (plain no-ring) = outside d s.answer l
+      go false l s y (plain no_ring) = outside d s.answer l
       go false l s y (forced v is e) = absurd (omega (arith, s.answer))
 
   pub told_made : {E : Type 0} (d : Decline) (r : Result Answer E) → Outcome w t asked none forbids before after (Err d) → IfOk r (Refused d (take (ring_length d) after.ring)) → IfOk r (Told w t asked forbids give)

@@ -1,4 +1,4 @@
-// What a release claims, and whether it holds.
+// What a release claims.
 #![tactic(auto)]
 
 pub mod claim;

@@ -62,13 +62,13 @@ some_of (suc m) n t1 t2 l = omega arith
 -- A ring forbids only by its marks, so it has one, and r is shown by a ring again.
 -- That it forbids is by its counts just that its ratio is the greater one, so less is left above it.
 module _ (w : View) (best r : Ratio) (t : Thresholds) (is_at : t ≡ thresholds_at best.marks best.hops) (xs : List ℕ) (k : ℕ) (short : k ≤ 64) (forbids : ForbidsLoosely w t (take k xs))
-    (tally : Tally) (few : (tally.marks ≤ 64) × (tally.hops ≤ 64)) (counted : Counted w (take k xs) (length (take k xs)) tally) (is-r : r ≡ ratio tally.marks tally.hops k) where
+    (tally : Tally) (few : (tally.marks ≤ 64) × (tally.hops ≤ 64)) (counted : Counted w (take k xs) (length (take k xs)) tally) (is_r : r ≡ ratio tally.marks tally.hops k) where
   -- by its counts the ring has f·t1 > k·t2
   forbids_by : tally.hops * t.t2 < tally.marks * t.t1
   forbids_by = subst₂ (λ (m n : ℕ). n * t.t2 < m * t.t1) (sym counted.marks) (sym counted.hops) forbids.forbids
 
   pub held_next : Held w xs r
-  held_next = subst (Held w xs) (sym is-r) (record {
+  held_next = subst (Held w xs) (sym is_r) (record {
     few_marks = few.0;
     few_hops = few.1;
     short = short;
@@ -77,7 +77,7 @@ module _ (w : View) (best r : Ratio) (t : Thresholds) (is_at : t ≡ thresholds_
 
   -- with t1 = h and t2 = e that is f/k > e/h
   pub room_next : ltb 0 best.hops ≡ true → best.hops ≤ 64 → room_above r.marks r.hops < room_above best.marks best.hops
-  room_next some few_hops = subst (λ (x : Ratio). room_above x.marks x.hops < room_above best.marks best.hops) (sym is-r)
+  room_next some few_hops = subst (λ (x : Ratio). room_above x.marks x.hops < room_above best.marks best.hops) (sym is_r)
       (room_falls best.marks best.hops tally.marks tally.hops (ltb-true 0 best.hops some) few_hops few.0 few.1
       (subst (λ (s : Thresholds). tally.hops * s.t2 < tally.marks * s.t1) is_at forbids_by))
 

@@ -17,15 +17,15 @@ module _ {V : Type 0} (s : Ghosts V) (laws : Lawful s) (steps : Steps V) where
       record {
         under = omega arith;
         nodes = λ j l u. let e : j ≡ n + 1 = omega arith in subst (λ (i : ℕ). get_or (set ys (n + 1) start) i 0 < 64) (sym e) (rw here low);
-        falls = λ k e. let k-is : k ≡ n = omega arith in subst (λ (i : ℕ). Falls s steps i (get_or (set ys (n + 1) start) (n + 1) 0)) (sym k-is) (subst (Falls s steps n) (sym here) falls);
+        falls = λ k e. let k_is : k ≡ n = omega arith in subst (λ (i : ℕ). Falls s steps i (get_or (set ys (n + 1) start) (n + 1) 0)) (sym k_is) (subst (Falls s steps n) (sym here) falls);
         down = λ j l u. absurd (omega arith);
       }
 
   -- one step further down: to the node that the layer was reached by, where the layer below fell too
   walk_down : (ys : List ℕ) (top k v : ℕ) → length ys ≡ 65 → top ≤ 64 → Walked s steps ys top (suc k) → v ≡ chosen s steps (level s steps 64 k) (get_or ys (suc k) 0) 64 → Walked s steps (set ys k v) top k
-  walk_down ys top k v len room w v-is =
+  walk_down ys top k v len room w v_is =
       let lt : Falls s steps k (get_or ys (suc k) 0) = w.falls k refl in
-      let step = rw (← v-is) at (fell s laws steps 64 k (get_or ys (suc k) 0) lt) in
+      let step = rw (← v_is) at (fell s laws steps 64 k (get_or ys (suc k) 0) lt) in
       let tops : suc k ≤ top = w.under in
       let here : get_or (set ys k v) k 0 ≡ v = get_or-set_same ys k v 0 (omega arith) in
       let other : (j : ℕ) → k < j → get_or (set ys k v) j 0 ≡ get_or ys j 0 = λ j l. get_or-set_other ys k j v 0 (omega arith) in

@@ -67,7 +67,7 @@ module _ {V : Type 0} (s : Ghosts V) (laws : Lawful s) (steps : Steps V) (w : Vi
     long = subst (λ (n : ℕ). 2 ≤ n) (sym (plain_long ys low high k some high_is loop.again.closed)) two_at_least;
     below = λ i l. let u = low_k i l in subst (λ (x : ℕ). x < 64) (sym (at i l)) (loop.nodes (high - i) (omega arith) (omega arith));
     stand = λ i l. subst (λ (x : ℕ). w.stands x ≡ true) (sym (at i l)) (step_stands w (get_or ys (high - i) 0) (get_or ys (high - suc i) 0) (down_step i (low_k i l)));
-    apart = λ i j l u e. let i-low : i < length (plain ys high k) = omega arith in down_apart i j l (low_k j u) (sym (at i i-low) ∙ e ∙ at j u);
+    apart = λ i j l u e. let i_low : i < length (plain ys high k) = omega arith in down_apart i j l (low_k j u) (sym (at i i_low) ∙ e ∙ at j u);
     steps = λ i l. subst₂ (λ (a b : ℕ). is_step w a b ≡ true)
         (sym (plain_round ys low high k some high_is loop.again.closed i ∙ down_here ys low high k some high_is loop.again.closed i (low_k i l)))
         (sym (plain_round ys low high k some high_is loop.again.closed (suc i) ∙ down_next ys low high k some high_is loop.again.closed i (low_k i l)))
@@ -75,16 +75,16 @@ module _ {V : Type 0} (s : Ghosts V) (laws : Lawful s) (steps : Steps V) (w : Vi
   }
 
   -- zs: the same records, from the place r on
-  module _ (r : ℕ) (zs : List ℕ) (turn : r < k) (zs-long : length zs ≡ k) (places : (i : ℕ) → i < k → get_or zs i 0 ≡ get_or ys (high - (i + r) % k) 0)
+  module _ (r : ℕ) (zs : List ℕ) (turn : r < k) (zs_long : length zs ≡ k) (places : (i : ℕ) → i < k → get_or zs i 0 ≡ get_or ys (high - (i + r) % k) 0)
       (least : (j : ℕ) → low < j → j ≤ high → get_or ys (high - r) 0 ≤ get_or ys j 0) where
     turned_cycle : Cycle w zs
-    turned_cycle = (turned w r (plain ys high k) zs (is_turned ys low high k some high_is loop.again.closed r zs zs-long places) plain_cycle).cycle
+    turned_cycle = (turned w r (plain ys high k) zs (is_turned ys low high k some high_is loop.again.closed r zs zs_long places) plain_cycle).cycle
 
     turned_ring : Ring w zs
     turned_ring = record {
       cycle = turned_cycle;
       first = λ i l.
-          let u : i < k = subst (λ (n : ℕ). i < n) zs-long l in
+          let u : i < k = subst (λ (n : ℕ). i < n) zs_long l in
           let p : (i + r) % k < k = mod-lt (i + r) some in
           let z : (0 + r) % k ≡ r = ap (λ (n : ℕ). n % k) (zero-add r) ∙ mod-eq_of_lt turn in
           let here : get_or zs 0 0 ≡ get_or ys (high - r) 0 = places 0 some ∙ ap (λ (n : ℕ). get_or ys (high - n) 0) z in
@@ -96,13 +96,13 @@ module _ {V : Type 0} (s : Ghosts V) (laws : Lawful s) (steps : Steps V) (w : Vi
 
     -- as many marks, and as many other steps, round the ring as along the walk
     same_marks : marks_of w zs ≡ sum_to (λ j. bit (marks_at j)) k
-    same_marks = ring_sum ys low high k some high_is loop.again.closed r zs zs-long places (λ u v. bit (is_mark w u v))
+    same_marks = ring_sum ys low high k some high_is loop.again.closed r zs zs_long places (λ u v. bit (is_mark w u v))
 
     same_hops : hops_of w zs ≡ sum_to (λ j. bit (not (marks_at j))) k
     same_hops =
         sum_same (λ i. bit (is_hop w (round zs i) (round zs (suc i)))) (λ i. bit (not (is_mark w (round zs i) (round zs (suc i))))) (length zs)
         (λ i l. ap bit (other (step w (round zs i) (round zs (suc i))) (round_steps w zs turned_cycle i)))
-        ∙ ring_sum ys low high k some high_is loop.again.closed r zs zs-long places (λ u v. bit (not (is_mark w u v)))
+        ∙ ring_sum ys low high k some high_is loop.again.closed r zs zs_long places (λ u v. bit (not (is_mark w u v)))
 
     -- so the two sums are equal, whatever the order of their steps
     same_sum : sum_round s w t zs ≡ total s (λ j. steps.cost (get_or ys (suc (low + j)) 0) (get_or ys (low + j) 0)) k

@@ -21,15 +21,15 @@ pub data Puts (bytes before after : List ℕ) : Result ℕ Decline → Type 0 wh
   short : (d : Decline) → number_of d ≡ 1 → length before < length bytes → after ≡ before → Puts bytes before after (Err d)
 
 -- the release of the least ratio's finding is put out; or a circle stands, and the output is kept whole
-pub data Writes (w : View) (before after : Memory Whole) (out-before out-after : List ℕ) : Result ℕ Decline → Type 0 where
-  found : (r : Ratio) {a : Result ℕ Decline} → RatioGiven w r before after → Puts (release_of w after r) out-before out-after a → Writes w before after out-before out-after a
-  circled : (d : Decline) → number_of d ≡ 12 → Shown (Circle w) (ring_length d) before after → out-after ≡ out-before → Writes w before after out-before out-after (Err d)
+pub data Writes (w : View) (before after : Memory Whole) (out_before out_after : List ℕ) : Result ℕ Decline → Type 0 where
+  found : (r : Ratio) {a : Result ℕ Decline} → RatioGiven w r before after → Puts (release_of w after r) out_before out_after a → Writes w before after out_before out_after a
+  circled : (d : Decline) → number_of d ≡ 12 → Shown (Circle w) (ring_length d) before after → out_after ≡ out_before → Writes w before after out_before out_after (Err d)
 
 -- declined by 1 for the memory, with all of it and the output kept
-pub record Refused (before after : Memory Whole) (out-before out-after : List ℕ) (a : Result ℕ Decline) : Type 0 where
+pub record Refused (before after : Memory Whole) (out_before out_after : List ℕ) (a : Result ℕ Decline) : Type 0 where
   pub memory : Declined 1 before after (valueless a)
-  pub output : out-after ≡ out-before
+  pub output : out_after ≡ out_before
 
 -- the checks in their order: 1 for the memory, 12, and then 1 for the output
 abbrev pub Released : View → Memory Whole → Memory Whole → List ℕ → List ℕ → Result ℕ Decline → Type 0
-Released w before after out-before out-after a = MatchBool (suffices before) (Writes w before after out-before out-after a) (Refused before after out-before out-after a)
+Released w before after out_before out_after a = MatchBool (suffices before) (Writes w before after out_before out_after a) (Refused before after out_before out_after a)

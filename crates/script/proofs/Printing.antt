@@ -14,7 +14,7 @@ use Rattle.paths.proofs.Pigeons.{pigeons}
 use Rattle.sheet.specs.Meanings.{Meaning}
 use Rattle.sheet.specs.Views.{view_in}
 use Rattle.archive.specs.declared.call.Call.{Call}
-use Rattle.archive.specs.declared.call.Call.TheVariants.{Enter, Mark, Strike, Loose, Strict, Unit as Units-call, Wrong}
+use Rattle.archive.specs.declared.call.Call.TheVariants.{Enter, Mark, Strike, Loose, Strict, Unit as UnitsCall, Wrong}
 use Rattle.archive.specs.declared.answer.Answer.{Answer}
 use Rattle.archive.specs.declared.answer.Graded.{Graded}
 use Rattle.archive.specs.Listed.{entry, listed}
@@ -110,7 +110,7 @@ right_fits m (Mark u v) x r = plain_fits _ x r
 right_fits m (Strike u v) x r = plain_fits _ x r
 right_fits m (Loose t) x r = loose_fits (view_in m) t x r
 right_fits m (Strict t) x r = strict_fits (view_in m) t x r
-right_fits m Units-call x r = unit_fits (view_in m) x r
+right_fits m UnitsCall x r = unit_fits (view_in m) x r
 right_fits m Wrong x r = plain_fits 17 x r
 
 pub right_prints : (m : Meaning) (c : Call) (x : Answer) → Right m c x → printable x ≡ true

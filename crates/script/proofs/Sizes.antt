@@ -12,7 +12,7 @@ use Rattle.scale.specs.Wholes.{WholeExtent}
 use Rattle.scale.specs.Units.{UnitExtent}
 use Rattle.scale.specs.Pairs.{PairExtent}
 use Rattle.scale.specs.declared.pair.Pair.{Pair}
-use Rattle.scale.specs.declared.unit.Unit.{Unit as Unit-value}
+use Rattle.scale.specs.declared.unit.Unit.{Unit as UnitValue}
 use Rattle.scale.specs.declared.whole.Whole.{Whole}
 use Rattle.archive.specs.declared.answer.Graded.{Graded}
 use Rattle.archive.specs.declared.answer.Answer.{Answer}
@@ -72,7 +72,7 @@ entries_long text xs few each =
     let l = joined_long (entry_text text) 31 xs (λ k g h e. entry_long text g (each k g h e).0 (each k g h e).1) in
     omega arith
 
-pair_long : (p : Pair Whole Unit-value) → PairExtent WholeExtent UnitExtent p 4096 → length (pair_text p) ≤ 26
+pair_long : (p : Pair Whole UnitValue) → PairExtent WholeExtent UnitExtent p 4096 → length (pair_text p) ≤ 26
 pair_long p h =
     omega (arith, signed_long p.first.value h.0, signed_long p.second.value (omega (arith, h.1)), length-append (whole_text p.first) (codes "/" ++ unit_text p.second))
 

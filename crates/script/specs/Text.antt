@@ -6,7 +6,7 @@ use Rattle.model.specs.Refusals.{number_of}
 use Rattle.model.specs.declared.decline.Decline.{Decline}
 use Rattle.model.specs.declared.decline.Decline.TheVariants.{TooLittleMemory}
 use Rattle.scale.specs.declared.pair.Pair.{Pair}
-use Rattle.scale.specs.declared.unit.Unit.{Unit as Unit-value}
+use Rattle.scale.specs.declared.unit.Unit.{Unit as UnitValue}
 use Rattle.scale.specs.declared.whole.Whole.{Whole}
 use Rattle.archive.specs.declared.answer.Graded.{Graded}
 use Rattle.archive.specs.declared.answer.Answer.{Answer}
@@ -17,10 +17,10 @@ use Rattle.script.specs.Numbers.{field}
 abbrev pub whole_text : Whole → List ℕ
 whole_text w = signed_decimal w.value
 
-abbrev pub unit_text : Unit-value → List ℕ
+abbrev pub unit_text : UnitValue → List ℕ
 unit_text u = signed_decimal u.value
 
-abbrev pub pair_text : Pair Whole Unit-value → List ℕ
+abbrev pub pair_text : Pair Whole UnitValue → List ℕ
 pair_text p = whole_text p.first ++ (codes "/" ++ unit_text p.second)
 
 -- an entry: " 0:-2"

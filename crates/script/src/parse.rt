@@ -2,7 +2,7 @@
 // digits without leading zeros (0 itself is "0"), and nothing else; so it never has more than 17 bytes.
 ghost use Rattle.std.specs.Prelude.{◌≡◌, MatchOption};
 ghost use Rattle.script.specs.Numbers.{Field, NoField};
-ghost use Rattle.script.specs.Lines.{letter, NoLetter, arity as arity-of, clip as clipped, call_of, Fields, NoFields, IsLine, NoLine};
+ghost use Rattle.script.specs.Lines.{letter, NoLetter, arity as arity_of, clip as clipped, call_of, Fields, NoFields, IsLine, NoLine};
 
 use crate::find::find;
 use crate::number::number_in;
@@ -27,7 +27,7 @@ fn verb_of(b: u8) -> Option<Verb>
 
 // How many numbers follow the letter.
 fn arity(v: Verb) -> u8
-    ensures { result ≡ arity-of v }
+    ensures { result ≡ arity_of v }
 {
     match v {
         Verb::Enter => 1,

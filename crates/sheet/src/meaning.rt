@@ -1,4 +1,4 @@
-// What a sheet is: its ghost members are its meaning, and every call is told by that meaning alone.
+// What a sheet is: its first four ghost members are its meaning, and every call is told by that meaning alone; the fifth is its law.
 ghost use Rattle.std.specs.Prelude.{◌≡◌, ℕ, Bool};
 ghost use Rattle.sheet.specs.declared.state.State.{State};
 ghost use Rattle.sheet.specs.Meanings.{meaning, Lawful};
