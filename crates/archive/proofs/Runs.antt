@@ -1,21 +1,23 @@
 -- One call more of a list. Assumes nothing.
-use Rattle.std.proofs.Common.{◌≡◌, ℕ, zero, suc, ◌+◌, ◌<◌, List, [], ◌∷◌, length, get_or, take, refl, ap, ◌∙◌, add-one, arith, below_more}
-use Rattle.sheet.specs.Meanings.{Meaning}
+use Rattle.std.proofs.Common.{◌≡◌, ℕ, zero, suc, ◌+◌, ◌-◌, ◌<◌, List, [], ◌∷◌, ◌++◌, length, get_or, take, sym, refl, ap, ◌∙◌, subst, add-one, arith, below_more}
+use Rattle.std.proofs.lemmas.List.{get_or_append_left, get_or-append_right}
+use Rattle.layers.specs.Folders.{Account}
 use Rattle.archive.specs.declared.call.Call.{Call}
-use Rattle.archive.specs.Runs.{next, run}
+use Rattle.archive.specs.Accounts.{next, run}
 
-run_next : (m : Meaning) (cs : List Call) (i : ℕ) (d : Call) → i < length cs → run m (take (suc i) cs) ≡ next (run m (take i cs)) (get_or cs i d)
+pub run_next : (a : Account) (cs : List Call) (i : ℕ) (d : Call) → i < length cs → run a (take (suc i) cs) ≡ next (run a (take i cs)) (get_or cs i d)
 unfolding run
-run_next m [] i d h = absurd (omega arith)
-run_next m (c ∷ cs) zero d h = refl
-run_next m (c ∷ cs) (suc i) d h = run_next (next m c) cs i d (omega arith)
+run_next a [] i d h = absurd (omega arith)
+run_next a (c ∷ cs) zero d h = refl
+run_next a (c ∷ cs) (suc i) d h = run_next (next a c) cs i d (omega arith)
 
-pub run_more : (m : Meaning) (cs : List Call) (i : ℕ) (d : Call) → i < length cs → run m (take (i + 1) cs) ≡ next (run m (take i cs)) (get_or cs i d)
-run_more m cs i d h = ap (λ (n : ℕ). run m (take n cs)) (add-one i) ∙ run_next m cs i d h
+pub run_more : (a : Account) (cs : List Call) (i : ℕ) (d : Call) → i < length cs → run a (take (i + 1) cs) ≡ next (run a (take i cs)) (get_or cs i d)
+run_more a cs i d h = ap (λ (n : ℕ). run a (take n cs)) (add-one i) ∙ run_next a cs i d h
 
 -- one more at the end of a list, of which each place has its fact
-pub each_push : {X : Type 0} (P : ℕ → X → Type 0) (xs ys : List X) (n : ℕ) (x d : X)
-    → ((k : ℕ) → k < n → get_or ys k d ≡ get_or xs k d) → get_or ys n d ≡ x → P n x
-    → ((k : ℕ) → k < n → P k (get_or xs k d)) → (k : ℕ) → k < n + 1 → P k (get_or ys k d)
-each_push P xs ys n x d same here right all =
-    below_more (λ k. P k (get_or ys k d)) n (λ k h. rw (same k h) (all k h)) (rw here right)
+pub each_push : {X : Type 0} (P : ℕ → X → Type 0) (xs : List X) (n : ℕ) (x d : X) → length xs ≡ n → P n x
+    → ((k : ℕ) → k < n → P k (get_or xs k d)) → (k : ℕ) → k < n + 1 → P k (get_or (xs ++ (x ∷ [])) k d)
+each_push P xs n x d long here all =
+    let none : n - n ≡ 0 = omega arith in
+    let last : get_or (xs ++ (x ∷ [])) n d ≡ x = get_or-append_right xs (x ∷ []) n n d long (omega arith) ∙ ap (λ (i : ℕ). get_or (x ∷ []) i d) none in
+    below_more (λ k. P k (get_or (xs ++ (x ∷ [])) k d)) n (λ k h. subst (P k) (sym (get_or_append_left xs (x ∷ []) d k (omega arith))) (all k h)) (subst (P n) (sym last) here)

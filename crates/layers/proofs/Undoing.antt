@@ -6,7 +6,7 @@ use Rattle.model.specs.Sets.{put}
 use Rattle.sheet.specs.declared.state.State.{State}
 use Rattle.sheet.specs.declared.state.State.TheVariants.{Absent, Standing, Aside}
 use Rattle.sheet.specs.States.{is_absent, is_aside}
-use Rattle.layers.specs.Folders.{Filed, filed_state, aside_check}
+use Rattle.layers.specs.Folders.{Account, filed_state, seen, aside_check}
 use Rattle.layers.specs.Statements.{AsideAndBack, Undone}
 
 -- a number that passes the checks of set aside is a record that stands in the folder

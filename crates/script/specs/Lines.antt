@@ -4,17 +4,20 @@ use Rattle.model.specs.declared.thresholds.Thresholds.{Thresholds}
 use Rattle.archive.specs.declared.call.Call.{Call}
 use Rattle.archive.specs.declared.call.Call.TheVariants as call
 use Rattle.script.specs.declared.verb.Verb.{Verb}
-use Rattle.script.specs.declared.verb.Verb.TheVariants.{Enter, Mark, Strike, Loose, Strict, Unit as OnUnits}
+use Rattle.script.specs.declared.verb.Verb.TheVariants.{Enter, Mark, Strike, Aside, Back, Loose, Strict, Unit as OnUnits, Ratio}
 use Rattle.script.specs.Numbers.{field}
 
--- e m s g h o
+-- e m s a b g h o r
 abbrev pub letter : Verb → ℕ
 letter Enter = 101
 letter Mark = 109
 letter Strike = 115
+letter Aside = 97
+letter Back = 98
 letter Loose = 103
 letter Strict = 104
 letter OnUnits = 111
+letter Ratio = 114
 
 abbrev pub NoLetter : ℕ → Type 0
 NoLetter b = (v : Verb) → b ≢ letter v
@@ -24,9 +27,12 @@ abbrev pub arity : Verb → ℕ
 arity Enter = 1
 arity Mark = 2
 arity Strike = 2
+arity Aside = 1
+arity Back = 1
 arity Loose = 2
 arity Strict = 2
 arity OnUnits = 0
+arity Ratio = 0
 
 -- a record number as a call holds it: no number above 63 is a record, so 255 stands for all that are above it
 abbrev pub clip : ℕ → ℕ
@@ -39,9 +45,12 @@ abbrev pub call_of : Verb → ℕ → ℕ → Call
 call_of Enter n m = call.Enter (clip n)
 call_of Mark n m = call.Mark (clip n) (clip m)
 call_of Strike n m = call.Strike (clip n) (clip m)
+call_of Aside n m = call.SetAside (clip n)
+call_of Back n m = call.BringBack (clip n)
 call_of Loose n m = call.Loose (thresholds n m)
 call_of Strict n m = call.Strict (thresholds n m)
 call_of OnUnits n m = call.Unit
+call_of Ratio n m = call.Ratio
 
 -- none, the first, or both of two numbers, each after one space
 abbrev pub fields : ℕ → ℕ → ℕ → List ℕ

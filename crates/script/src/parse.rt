@@ -18,9 +18,12 @@ fn verb_of(b: u8) -> Option<Verb>
         'e' => Some(Verb::Enter),
         'm' => Some(Verb::Mark),
         's' => Some(Verb::Strike),
+        'a' => Some(Verb::Aside),
+        'b' => Some(Verb::Back),
         'g' => Some(Verb::Loose),
         'h' => Some(Verb::Strict),
         'o' => Some(Verb::Unit),
+        'r' => Some(Verb::Ratio),
         _ => None,
     }
 }
@@ -33,9 +36,12 @@ fn arity(v: Verb) -> u8
         Verb::Enter => 1,
         Verb::Mark => 2,
         Verb::Strike => 2,
+        Verb::Aside => 1,
+        Verb::Back => 1,
         Verb::Loose => 2,
         Verb::Strict => 2,
         Verb::Unit => 0,
+        Verb::Ratio => 0,
     }
 }
 
@@ -55,9 +61,12 @@ fn call(v: Verb, n: u32, m: u32) -> Call
         Verb::Enter => Call::Enter(clip(n)),
         Verb::Mark => Call::Mark(clip(n), clip(m)),
         Verb::Strike => Call::Strike(clip(n), clip(m)),
+        Verb::Aside => Call::SetAside(clip(n)),
+        Verb::Back => Call::BringBack(clip(n)),
         Verb::Loose => Call::Loose(Thresholds { t1: n, t2: m }),
         Verb::Strict => Call::Strict(Thresholds { t1: n, t2: m }),
         Verb::Unit => Call::Unit,
+        Verb::Ratio => Call::Ratio,
     }
 }
 

@@ -1,10 +1,10 @@
-// The line of an answer: "ok" or "no" and a number, a ring after "no", and the entries of a grading after "ok", with one
-// space before each item and byte 10 at the end.
+// The line of an answer: "no" and a number, and the ring of a refusal that shows one; or "ok", and the entries of a grading or
+// a ratio and its ring. One space stands before each item, and byte 10 at the end.
 ghost use Rattle.std.specs.Prelude.{◌≡◌, ◌+◌, ◌*◌, ◌≤◌, ◌++◌, length, take, drop};
 ghost use Rattle.std.specs.List.{flat_map};
 ghost use Rattle.script.specs.Numbers.{field};
 ghost use Rattle.script.specs.Puts.{Put};
-ghost use Rattle.script.specs.Text.{entry_text, text_of, entries_of, Printed};
+ghost use Rattle.script.specs.Text.{entry_text, ratio_text, ring_text, text_of, entries_of, Printed};
 
 use crate::spell::Spelled;
 use crate::write::{put_number, put_text};
@@ -22,7 +22,7 @@ fn put_field(out: &mut [u8], at: usize, n: u8) -> usize
 }
 
 // The records of a ring, in their order.
-fn put_ring(out: &mut [u8], at: usize, ring: &[u8]) -> usize
+fn put_records(out: &mut [u8], at: usize, ring: &[u8]) -> usize
     requires { at + 4 * length ring.now ≤ length out.old }
     ensures written { Put out.old at (flat_map field ring.now) result out.new }
     ensures within { result ≤ at + 4 * length ring.now }
@@ -32,6 +32,30 @@ fn put_ring(out: &mut [u8], at: usize, ring: &[u8]) -> usize
         end = put_field(out, end, ring[i]);
     }
     end
+}
+
+// A ring: its word and its records, and nothing where there are none.
+fn put_ring(out: &mut [u8], at: usize, ring: &[u8]) -> usize
+    requires { at + 5 + 4 * length ring.now ≤ length out.old }
+    ensures written { Put out.old at (ring_text ring.now) result out.new }
+    ensures within { result ≤ at + 5 + 4 * length ring.now }
+{
+    if ring.len() == 0 {
+        return put_text(out, at, b"");
+    }
+    let word = put_text(out, at, b" ring");
+    put_records(out, word, ring)
+}
+
+// Marks to hops.
+fn put_ratio(out: &mut [u8], at: usize, marks: u8, hops: u8) -> usize
+    requires { at + 8 ≤ length out.old }
+    ensures written { Put out.old at (ratio_text marks hops) result out.new }
+    ensures within { result ≤ at + 8 }
+{
+    let first = put_field(out, at, marks);
+    let stroke = put_text(out, first, b"/");
+    put_number(out, stroke, hops as u64)
 }
 
 // A record and its grade.
@@ -69,6 +93,12 @@ fn entries_in(answer: &Answer) -> usize
         Answer::Wholes(entries) => entries.len(),
         Answer::Pairs(entries) => entries.len(),
         Answer::Units(entries) => entries.len(),
+        Answer::Ratio {
+            marks: _,
+            hops: _,
+            ring,
+            grades: _,
+        } => ring.len(),
     }
 }
 
@@ -87,8 +117,7 @@ fn put_answer(out: &mut [u8], answer: &Answer) -> usize
         Answer::Forced(d, ring) => {
             let no = put_text(out, 0, b"no");
             let number = put_field(out, no, d.number());
-            let word = put_text(out, number, b" ring");
-            put_ring(out, word, ring)
+            put_ring(out, number, ring)
         }
         Answer::Wholes(entries) => {
             let ok = put_text(out, 0, b"ok");
@@ -101,6 +130,16 @@ fn put_answer(out: &mut [u8], answer: &Answer) -> usize
         Answer::Units(entries) => {
             let ok = put_text(out, 0, b"ok");
             put_entries(out, ok, entries)
+        }
+        Answer::Ratio {
+            marks,
+            hops,
+            ring,
+            grades: _,
+        } => {
+            let ok = put_text(out, 0, b"ok");
+            let ratio = put_ratio(out, ok, *marks, *hops);
+            put_ring(out, ratio, ring)
         }
     }
 }

@@ -8,10 +8,16 @@ pub enum Verb {
     Mark,
     // s: two records
     Strike,
+    // a: a record
+    Aside,
+    // b: a record
+    Back,
     // g: t1 and t2
     Loose,
     // h: t1 and t2
     Strict,
     // o: nothing
     Unit,
+    // r: nothing
+    Ratio,
 }

@@ -1,17 +1,14 @@
-use Rattle.std.proofs.Common.{◌≡◌, ℕ, ◌-◌, List, take, vec_items, sym, refl, ap, ◌∙◌, subst, arith}
-use Rattle.model.specs.declared.decline.Decline.{Decline}
-use Rattle.model.specs.Refusals.{number_of, ring_length}
-use Rattle.archive.specs.declared.answer.Answer.{Answer}
-use Rattle.archive.specs.declared.answer.Answer.TheVariants.{Forced}
-use Rattle.archive.specs.Told.{Refused, plain, forced}
-use Rattle.archive.proofs.Telling.{only_forbidden}
+use Rattle.std.proofs.Common.{refl, inl, inr}
+use Rattle.archive.specs.Told.{plain}
+use Rattle.archive.proofs.Telling.{only_circle, only_forbidden, refused_by}
 use Rattle.archive.proofs.grades.refusal.Goals as goal
 
-pub returns-in_ok-from_slice-in-Forbidden : goal.returns-in_ok-from_slice-in-Forbidden
-returns-in_ok-from_slice-in-Forbidden c =
-    let k-is : c.in-Forbidden.k - 0 ≡ c.in-Forbidden.k = omega arith in
-    subst (λ (d : Decline). Refused d (take (ring_length d) c.args.ring.now) (Forced (Decline.Forbidden c.in-Forbidden.k) c.in_ok-from_slice-in-Forbidden.field-0)) (sym c.in-Forbidden.is)
-    (forced c.in_ok-from_slice-in-Forbidden.field-0 refl (c.in_ok-from_slice-in-Forbidden.ensures.items ∙ ap (λ (n : ℕ). take n c.args.ring.now) k-is))
+pub returns-in-Circle : goal.returns-in-Circle
+returns-in-Circle c = refused_by c.with_ring.result c.args.decline _ c.args.ring.now c.in-Circle.is (inl refl) c.with_ring.ensures
+
+pub returns-in-Forbidden : goal.returns-in-Forbidden
+returns-in-Forbidden c =
+    refused_by c.with_ring-in-Forbidden.result c.args.decline _ c.args.ring.now c.in-Forbidden.is (inr refl) c.with_ring-in-Forbidden.ensures
 
 pub returns-in_default : goal.returns-in_default
-returns-in_default c = plain (λ e. only_forbidden c.args.decline e c.in_default.not-Forbidden)
+returns-in_default c = plain (λ e. only_circle c.args.decline e c.in_default.not-Circle) (λ e. only_forbidden c.args.decline e c.in_default.not-Forbidden)

@@ -1,4 +1,4 @@
-use Rattle.std.proofs.Common.{◌≡◌, ◌≤◌, replicate, pos, refl, arith}
+use Rattle.std.proofs.Common.{◌≡◌, ◌≤◌, pos, refl, arith}
 use Rattle.model.specs.Refusals.{ring_length}
 use Rattle.sheet.specs.Views.{view_of}
 use Rattle.scale.specs.Wholes.{of_whole}
@@ -7,24 +7,24 @@ use Rattle.scale.specs.Pairs.{both}
 use Rattle.grading.specs.Numbers.{BestStrict, ForbidsStrictly}
 use Rattle.grading.specs.Outcomes.{memory}
 use Rattle.archive.specs.declared.answer.Answer.TheVariants.{Pairs}
-use Rattle.archive.proofs.Telling.{told_given, told_made, refused_short}
+use Rattle.archive.proofs.Telling.{brought, told_given, told_made, refused_short}
 use Rattle.archive.proofs.grades.strict_answer.Goals as goal
 
 pub refusal-requires : goal.refusal-requires
 refusal-requires g c =
     let w = view_of g.S.Sheet c.args.sheet.now in
     let t = c.args.thresholds in
-    let short : ring_length c.in-Err.decline ≤ 64 = refused_short w t (BestStrict w t) (both (of_whole (pos 0)) (of_unit (pos 0))) (ForbidsStrictly w t) Pairs (memory (replicate 64 (both (of_whole (pos 0)) (of_unit (pos 0)))) (replicate 64 0) (replicate 4160 (both (of_whole (pos 0)) (of_unit (pos 0)))) (replicate 4160 0)) (memory c.strict.new.grades c.strict.new.ring c.strict.new.values c.strict.new.bytes) refl c.in-Err.decline c.in-Err.ensures in
+    let short : ring_length c.in-Err.decline ≤ 64 = refused_short w t (BestStrict w t) (both (of_whole (pos 0)) (of_unit (pos 0))) (ForbidsStrictly w t) Pairs (brought (both (of_whole (pos 0)) (of_unit (pos 0)))) (memory c.strict.new.grades c.strict.new.ring c.strict.new.values c.strict.new.bytes) refl c.in-Err.decline c.in-Err.ensures in
     omega arith
 
 pub returns-in_ok-list_grades-in-Ok : goal.returns-in_ok-list_grades-in-Ok
 returns-in_ok-list_grades-in-Ok g c =
     let w = view_of g.S.Sheet c.args.sheet.now in
     let t = c.args.thresholds in
-    told_given w t (BestStrict w t) (both (of_whole (pos 0)) (of_unit (pos 0))) (ForbidsStrictly w t) Pairs (memory (replicate 64 (both (of_whole (pos 0)) (of_unit (pos 0)))) (replicate 64 0) (replicate 4160 (both (of_whole (pos 0)) (of_unit (pos 0)))) (replicate 4160 0)) (memory c.strict.new.grades c.strict.new.ring c.strict.new.values c.strict.new.bytes) refl c.in_ok-list_grades-in-Ok.field-0 c.in-Ok.ensures c.in_ok-list_grades-in-Ok.ensures
+    told_given w t (BestStrict w t) (both (of_whole (pos 0)) (of_unit (pos 0))) (ForbidsStrictly w t) Pairs (brought (both (of_whole (pos 0)) (of_unit (pos 0)))) (memory c.strict.new.grades c.strict.new.ring c.strict.new.values c.strict.new.bytes) refl c.in_ok-list_grades-in-Ok.field-0 c.in-Ok.ensures c.in_ok-list_grades-in-Ok.ensures
 
 pub returns-in-Err : goal.returns-in-Err
 returns-in-Err g c =
     let w = view_of g.S.Sheet c.args.sheet.now in
     let t = c.args.thresholds in
-    told_made w t (BestStrict w t) (both (of_whole (pos 0)) (of_unit (pos 0))) (ForbidsStrictly w t) Pairs (memory (replicate 64 (both (of_whole (pos 0)) (of_unit (pos 0)))) (replicate 64 0) (replicate 4160 (both (of_whole (pos 0)) (of_unit (pos 0)))) (replicate 4160 0)) (memory c.strict.new.grades c.strict.new.ring c.strict.new.values c.strict.new.bytes) refl c.in-Err.decline c.refusal.result c.in-Err.ensures c.refusal.ensures
+    told_made w t (BestStrict w t) (both (of_whole (pos 0)) (of_unit (pos 0))) (ForbidsStrictly w t) Pairs (brought (both (of_whole (pos 0)) (of_unit (pos 0)))) (memory c.strict.new.grades c.strict.new.ring c.strict.new.values c.strict.new.bytes) refl c.in-Err.decline c.refusal.result c.in-Err.ensures c.refusal.ensures

@@ -1,64 +1,67 @@
-use Rattle.std.proofs.Common.{◌≡◌, IfOk, sym, refl, ap, ◌∙◌, subst}
+use Rattle.std.proofs.Common.{sym, refl, ap, subst}
 use Rattle.model.specs.declared.decline.Decline.TheVariants.{WrongLine}
-use Rattle.sheet.specs.Views.{meaning_of}
+use Rattle.layers.specs.FolderCalls.{account_of}
 use Rattle.archive.specs.declared.call.Call.{Call}
-use Rattle.archive.specs.Runs.{next}
+use Rattle.archive.specs.declared.answer.Answer.TheVariants.{Declined}
 use Rattle.archive.specs.Right.{declined, Right}
-use Rattle.archive.proofs.Plainly.{plainly}
+use Rattle.archive.specs.Told.{LooseTold, StrictTold, UnitTold, RatioTold}
+use Rattle.archive.specs.Accounts.{next}
+use Rattle.archive.proofs.Following.{enter_answered, mark_answered, strike_answered, aside_answered, back_answered, grading_answered}
 use Rattle.archive.proofs.replay.answer.Goals as goal
 
 pub returns-in-Enter : goal.returns-in-Enter
 returns-in-Enter g c =
-    let m = meaning_of g.S.Sheet c.args.sheet.now in
-    record {
-      meaning = c.enter.ensures.meaning ∙ ap (next m) (sym c.in-Enter.is);
-      right = subst (λ (k : Call). Right m k c.plain.result) (sym c.in-Enter.is) (plainly c.enter.result c.enter.ensures.answer c.plain.ensures);
-    }
+    let done = enter_answered c.in-Enter.u c.in-Enter.is c.enter_here.ensures c.plain.ensures in
+    record { follows = done.follows; right = done.right }
 
 pub returns-in-Mark : goal.returns-in-Mark
 returns-in-Mark g c =
-    let m = meaning_of g.S.Sheet c.args.sheet.now in
-    record {
-      meaning = c.mark.ensures.meaning ∙ ap (next m) (sym c.in-Mark.is);
-      right = subst (λ (k : Call). Right m k c.plain-in-Mark.result) (sym c.in-Mark.is) (plainly c.mark.result c.mark.ensures.answer c.plain-in-Mark.ensures);
-    }
+    let done = mark_answered c.in-Mark.u c.in-Mark.v c.in-Mark.is c.mark_here.ensures c.plain-in-Mark.ensures in
+    record { follows = done.follows; right = done.right }
 
 pub returns-in-Strike : goal.returns-in-Strike
 returns-in-Strike g c =
-    let m = meaning_of g.S.Sheet c.args.sheet.now in
-    record {
-      meaning = c.strike.ensures.meaning ∙ ap (next m) (sym c.in-Strike.is);
-      right = subst (λ (k : Call). Right m k c.plain-in-Strike.result) (sym c.in-Strike.is) (plainly c.strike.result c.strike.ensures.answer c.plain-in-Strike.ensures);
-    }
+    let done = strike_answered c.in-Strike.u c.in-Strike.v c.in-Strike.is c.strike_here.ensures c.plain-in-Strike.ensures in
+    record { follows = done.follows; right = done.right }
+
+pub returns-in-SetAside : goal.returns-in-SetAside
+returns-in-SetAside g c =
+    let done = aside_answered c.in-SetAside.u c.in-SetAside.is c.set_aside.ensures.account c.plain-in-SetAside.ensures in
+    record { follows = done.follows; right = done.right }
+
+pub returns-in-BringBack : goal.returns-in-BringBack
+returns-in-BringBack g c =
+    let done = back_answered c.in-BringBack.u c.in-BringBack.is c.bring_back.ensures.account c.plain-in-BringBack.ensures in
+    record { follows = done.follows; right = done.right }
 
 pub returns-in-Loose : goal.returns-in-Loose
 returns-in-Loose g c =
-    let m = meaning_of g.S.Sheet c.args.sheet.now in
-    record {
-      meaning = ap (next m) (sym c.in-Loose.is);
-      right = subst (λ (k : Call). IfOk c.loose_answer.result (Right m k)) (sym c.in-Loose.is) c.loose_answer.ensures;
-    }
+    let a = account_of g.S.Sheet c.args.folder.now in
+    let done = grading_answered a c.loose_answer.result (λ w. LooseTold w c.in-Loose.thresholds) c.in-Loose.is refl (λ m. m) c.loose_answer.ensures in
+    record { follows = done.follows; right = done.right }
 
 pub returns-in-Strict : goal.returns-in-Strict
 returns-in-Strict g c =
-    let m = meaning_of g.S.Sheet c.args.sheet.now in
-    record {
-      meaning = ap (next m) (sym c.in-Strict.is);
-      right = subst (λ (k : Call). IfOk c.strict_answer.result (Right m k)) (sym c.in-Strict.is) c.strict_answer.ensures;
-    }
+    let a = account_of g.S.Sheet c.args.folder.now in
+    let done = grading_answered a c.strict_answer.result (λ w. StrictTold w c.in-Strict.thresholds) c.in-Strict.is refl (λ m. m) c.strict_answer.ensures in
+    record { follows = done.follows; right = done.right }
 
 pub returns-in-Unit : goal.returns-in-Unit
 returns-in-Unit g c =
-    let m = meaning_of g.S.Sheet c.args.sheet.now in
-    record {
-      meaning = ap (next m) (sym c.in-Unit.is);
-      right = subst (λ (k : Call). IfOk c.unit_answer.result (Right m k)) (sym c.in-Unit.is) c.unit_answer.ensures;
-    }
+    let a = account_of g.S.Sheet c.args.folder.now in
+    let done = grading_answered a c.unit_answer.result UnitTold c.in-Unit.is refl (λ m. m) c.unit_answer.ensures in
+    record { follows = done.follows; right = done.right }
+
+pub returns-in-Ratio : goal.returns-in-Ratio
+returns-in-Ratio g c =
+    let a = account_of g.S.Sheet c.args.folder.now in
+    let done = grading_answered a c.ratio_answer.result RatioTold c.in-Ratio.is refl (λ m. m) c.ratio_answer.ensures in
+    record { follows = done.follows; right = done.right }
 
 pub returns-in-Wrong : goal.returns-in-Wrong
 returns-in-Wrong g c =
-    let m = meaning_of g.S.Sheet c.args.sheet.now in
+    let a = account_of g.S.Sheet c.args.folder.now in
     record {
-      meaning = ap (next m) (sym c.in-Wrong.is);
-      right = subst (λ (k : Call). Right m k _) (sym c.in-Wrong.is) (declined WrongLine refl);
+      follows = λ tidy. record { account = ap (next a) (sym c.in-Wrong.is); tidy = tidy };
+      right = λ tidy. subst (λ (k : Call). Right a k (Declined WrongLine)) (sym c.in-Wrong.is) (declined WrongLine refl);
     }
