@@ -1,3 +1,4 @@
 pub mod Adding
 pub mod Listing
 pub mod Laying
+pub mod Releasing

@@ -4,4 +4,4 @@
 mod count;
 mod draft;
 mod sections;
-mod write;
+pub mod write;
