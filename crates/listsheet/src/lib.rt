@@ -14,6 +14,8 @@ use sheet::present::Present;
 use sheet::state::State;
 
 mod marks;
+#[cfg(test)]
+mod tests;
 
 #[derive(Drop)]
 pub struct ListSheet {

@@ -1,4 +1,4 @@
-// A release while it is written: bytes put one after another into room for the longest release there is.
+// A release while it is written: bytes put one after another into room that no release outgrows.
 ghost use Rattle.std.specs.Prelude.{◌≡◌, ◌+◌, ◌≤◌, [], ◌∷◌, ◌++◌, length, drop};
 ghost use Rattle.std.specs.List.{flat_map};
 ghost use Rattle.release.specs.Drafts.{written, Adds};

@@ -4,4 +4,6 @@
 mod count;
 mod draft;
 mod sections;
+#[cfg(test)]
+mod tests;
 pub mod write;
