@@ -1,5 +1,5 @@
 -- From the outcome of a grading call to its answer. Assumes nothing.
-use Rattle.std.proofs.Common.{◌≡◌, ℕ, ◌≤◌, Bool, true, false, ◌⊎◌, List, get_or, take, IfOk, Ok, Err, vec_items, MatchBool, Result, Vec, sym, refl, subst, inl, inr, arith}
+use Rattle.std.proofs.Common.{◌≡◌, ℕ, Bool, true, false, List, get_or, take, IfOk, Ok, Err, vec_items, MatchBool, Result, Vec, sym, refl, subst, arith}
 use Rattle.std.specs.declared.alloc.Global.{Global}
 use Rattle.model.specs.declared.decline.Decline.{Decline}
 use Rattle.model.specs.declared.decline.Decline.TheVariants.{TooLittleMemory, NumberTooHigh, SameRecord, RecordAbsent, RecordAside, AlreadyStands, AlreadyMarked, SheetFull, NotMarked, NotSetAside, OutsideLimits, Circle, Forbidden, MissingByte, BrokenForm, DoesNotHold, WrongLine}
@@ -13,26 +13,6 @@ use Rattle.archive.specs.declared.answer.Graded.{Graded}
 use Rattle.archive.specs.Listed.{listed}
 use Rattle.archive.specs.Told.{Refused, plain, forced, Told, outside, given}
 use Rattle.archive.specs.Told as told
-
--- only two refusals show a ring
-length_of : (d : Decline) → ((number_of d ≡ 12) ⊎ (number_of d ≡ 13) → ⊥) → ring_length d ≤ 0
-length_of TooLittleMemory n = omega arith
-length_of NumberTooHigh n = omega arith
-length_of SameRecord n = omega arith
-length_of RecordAbsent n = omega arith
-length_of RecordAside n = omega arith
-length_of AlreadyStands n = omega arith
-length_of AlreadyMarked n = omega arith
-length_of SheetFull n = omega arith
-length_of NotMarked n = omega arith
-length_of NotSetAside n = omega arith
-length_of OutsideLimits n = omega arith
-length_of (Circle k) n = absurd (n (inl refl))
-length_of (Forbidden k) n = absurd (n (inr refl))
-length_of MissingByte n = omega arith
-length_of BrokenForm n = omega arith
-length_of DoesNotHold n = omega arith
-length_of WrongLine n = omega arith
 
 -- the number 13 is Forbidden's
 pub only_forbidden : (d : Decline) → number_of d ≡ 13 → ((k : ℕ) → d ≡ Forbidden k → ⊥) → ⊥
@@ -65,13 +45,6 @@ module _ {V : Type 0} (w : View) (t : Thresholds) (asked : (ℕ → V) → Type 
       go : (b : Bool) → within_limits t ≡ b → MatchBool b (Given w asked none before after) (Declined 11 before after (Ok tt)) → Told w t asked forbids give (give v)
       go true l s = given v (λ u. get_or after.grades u none) l s.grades e
       go false l s = absurd (omega (arith, s.answer))
-
-  pub refused_short : (d : Decline) → Outcome w t asked none forbids before after (Err d) → ring_length d ≤ 64
-  refused_short d o = go (within_limits t) (inside (Err d) o)
-    where
-      go : (b : Bool) → MatchBool b ((number_of d ≡ 13) × Shown forbids (ring_length d) before after) (Declined 11 before after (Err d)) → ring_length d ≤ 64
-      go true s = s.1.short
-      go false s = omega (arith, length_of d (λ e. mathlib.Core.Logic.⊎_elim (λ (i : number_of d ≡ 12). omega (arith, s.answer)) (λ (i : number_of d ≡ 13). omega (arith, s.answer)) e))
 
   told_refused : (d : Decline) (x : Answer) → Outcome w t asked none forbids before after (Err d) → Refused d (take (ring_length d) after.ring) x → Told w t asked forbids give x
   told_refused d x o = go (within_limits t) refl (inside (Err d) o) x

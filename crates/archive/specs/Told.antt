@@ -6,8 +6,8 @@ use Rattle.model.specs.declared.thresholds.Thresholds.{Thresholds}
 use Rattle.model.specs.Limits.{within_limits}
 use Rattle.model.specs.Refusals.{number_of}
 use Rattle.model.specs.Views.{View}
-use Rattle.grading.specs.Numbers.{BestLoose, ForbidsLoosely, BestStrict, ForbidsStrictly}
-use Rattle.grading.specs.Kinds.{unit_thresholds}
+use Rattle.paths.specs.Numbers.{BestLoose, ForbidsLoosely, BestStrict, ForbidsStrictly}
+use Rattle.paths.specs.Numbers.{unit_thresholds}
 use Rattle.archive.specs.declared.answer.Answer.{Answer}
 use Rattle.archive.specs.declared.answer.Answer.TheVariants.{Declined, Forced, Wholes, Pairs, Units}
 use Rattle.archive.specs.declared.answer.Graded.{Graded}

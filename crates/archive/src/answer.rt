@@ -11,6 +11,7 @@ pub struct Graded<V> {
     pub grade: V,
 }
 
+// One case for each form of a line. As a Result it would stand in the Result of memory, and each use would take two matches.
 #[derive(Drop)]
 pub enum Answer {
     Taken,

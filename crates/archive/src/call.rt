@@ -10,6 +10,7 @@ pub enum Call {
     Loose(Thresholds),
     Strict(Thresholds),
     Unit,
-    // a line that stands for no call: it changes nothing, and is declined
+    // a line that stands for no call: it changes nothing, and is declined. It has its place among the answers like any call: as a
+    // None it would be told apart at every step, and be answered all the same
     Wrong,
 }

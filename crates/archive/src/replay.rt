@@ -6,17 +6,23 @@ ghost use Rattle.archive.specs.Right.{Tells, Right, Replayed};
 
 use crate::answer::Answer;
 use crate::call::Call;
-use crate::grades::{loose_answer, strict_answer, unit_answer};
+use crate::grades::grades_answer;
 use model::decline::Decline;
+use model::thresholds::Thresholds;
+use scale::pair::Pair;
+use scale::unit::Unit;
+use scale::whole::Whole;
 use sheet::meaning::Sheet;
 use std::alloc::{AllocError, Global};
 
-fn plain(r: Result<(), Decline>) -> Answer
-    ensures { Tells r result }
-{
-    match r {
-        Ok(()) => Answer::Taken,
-        Err(decline) => Answer::Declined(decline),
+impl From<Result<(), Decline>> for Answer {
+    ghost from_gives = { Tells };
+
+    fn from(made: Result<(), Decline>) -> Answer {
+        match made {
+            Ok(()) => Answer::Taken,
+            Err(decline) => Answer::Declined(decline),
+        }
     }
 }
 
@@ -26,12 +32,13 @@ pub fn answer<S: Sheet>(heap: Global, sheet: &mut S, call: Call) -> Result<Answe
     ensures right { IfOk result (Right (meaning_of S.Sheet sheet.old) call) }
 {
     match call {
-        Call::Enter(u) => Ok(plain(sheet.enter(u))),
-        Call::Mark(u, v) => Ok(plain(sheet.mark(u, v))),
-        Call::Strike(u, v) => Ok(plain(sheet.strike(u, v))),
-        Call::Loose(thresholds) => loose_answer(heap, sheet, thresholds),
-        Call::Strict(thresholds) => strict_answer(heap, sheet, thresholds),
-        Call::Unit => unit_answer(heap, sheet),
+        Call::Enter(u) => Ok(sheet.enter(u).into()),
+        Call::Mark(u, v) => Ok(sheet.mark(u, v).into()),
+        Call::Strike(u, v) => Ok(sheet.strike(u, v).into()),
+        Call::Loose(thresholds) => grades_answer::<S, Whole>(heap, sheet, thresholds),
+        Call::Strict(thresholds) => grades_answer::<S, Pair<Whole, Unit>>(heap, sheet, thresholds),
+        // whatever thresholds are given, those of the unit count
+        Call::Unit => grades_answer::<S, Unit>(heap, sheet, Thresholds { t1: 1, t2: 0 }),
         Call::Wrong => Ok(Answer::Declined(Decline::WrongLine)),
     }
 }

@@ -8,7 +8,7 @@ pub struct Claim {
     pub marks: [u64; 64],
     // place u: minus the grade of the record u
     pub depths: [u16; 64],
-    // the first `len` bytes: the ring
+    // the first `len` bytes: the ring. A claim is public and Copy, and has to stay so; a vector of fixed room is not
     pub ring: [u8; 255],
     pub len: u8,
 }

@@ -1,79 +1,30 @@
 -- The ratio in hand, from ring to ring, and what is answered at the end. Assumes nothing.
-use Rattle.std.proofs.Common.{◌≡◌, ℕ, zero, suc, ◌+◌, ◌-◌, ◌*◌, ◌<◌, ◌≤◌, Bool, true, false, cond, ltb, List, ◌++◌, length, get_or, take, drop, pos, Ok, Err, MatchBool, sym, refl, ap, ◌∙◌, subst, subst₂, inl, inr, zero-mul, arith, length-take-le, get_or-drop, take-take}
+use Rattle.std.proofs.Common.{◌≡◌, ℕ, ◌+◌, ◌-◌, ◌*◌, ◌<◌, ◌≤◌, Bool, true, false, cond, ltb, List, ◌++◌, length, get_or, take, drop, Ok, Err, MatchBool, sym, refl, ap, ◌∙◌, subst, subst₂, inl, inr, arith, length-take-le, get_or-drop, take-take}
 use lib.Seq.{take-append-le}
 use Rattle.std.proofs.lemmas.List.{get_or-append_right}
-use Rattle.std.proofs.lemmas.Bool.{le-leb, ltb-true, ltb-false}
+use Rattle.std.proofs.lemmas.Bool.{ltb-true, ltb-false}
 use Rattle.model.specs.declared.decline.Decline.TheVariants.{Circle as circle}
 use Rattle.model.specs.declared.thresholds.Thresholds.{Thresholds}
-use Rattle.model.specs.Limits.{within_limits}
 use Rattle.model.specs.Views.{View}
 use Rattle.model.specs.Rings.{Circle}
 use Rattle.model.specs.Ratios.{thresholds_at, Shows}
 use Rattle.model.proofs.Ratios.{grading_shows_least}
 use Rattle.scale.specs.declared.whole.Whole.{Whole}
-use Rattle.scale.specs.Wholes.{of_whole}
 use Rattle.grading.specs.declared.count.Tally.{Tally}
 use Rattle.grading.specs.declared.ratio.Ratio.{Ratio}
 use Rattle.grading.specs.Counts.{Counted}
-use Rattle.grading.specs.Numbers.{BestLoose, ForbidsLoosely}
-use Rattle.grading.specs.Outcomes.{Memory, Given}
-use Rattle.grading.specs.Ratios.{grade_at, GradedAt, RatioOrCircle, ratio, Held, Climbed, answer_to}
-use Rattle.grading.proofs.Checked.{when_true, when_false}
+use Rattle.paths.specs.Numbers.{ForbidsLoosely}
+use Rattle.grading.specs.Outcomes.{Memory}
+use Rattle.grading.specs.Ratios.{grade_at, GradedAt, RatioOrCircle, ratio, Climbed, answer_to}
 use Rattle.grading.proofs.Measures.{room_above, room_falls}
 
--- no ring yet
-pub held_none : (w : View) (xs : List ℕ) (r : Ratio) → r ≡ ratio 0 1 0 → Held w xs r
-held_none w xs r is = subst (Held w xs) (sym is) (record {
-  few_marks = omega arith;
-  few_hops = omega arith;
-  short = omega arith;
-  shown = inl (record { empty = refl; marks = refl; hops = refl });
-})
-
-module _ (w : View) (r : Ratio) (t : Thresholds) (is_at : t ≡ thresholds_at r.marks r.hops) (some : ltb 0 r.hops ≡ true) where
-  -- numbers up to 64 are within the limits of thresholds
-  pub held_limits : (xs : List ℕ) → Held w xs r → within_limits t ≡ true
-  held_limits xs held =
-      let e : r.marks ≤ 64 = held.few_marks in
-      let h : r.hops ≤ 64 = held.few_hops in
-      let one : 0 < r.hops = ltb-true 0 r.hops some in
-      subst (λ (s : Thresholds). within_limits s ≡ true) (sym is_at) (rw (le-leb 1 r.hops one, le-leb r.hops 1000000 (omega arith), le-leb r.marks 1000000 (omega arith)))
-
-  -- graded at the ratio in hand
-  pub climbed_given : (start : List Whole) (before after : Memory Whole) → before.grades ≡ start → Held w before.ring r
-      → Given w (λ g. BestLoose w t (λ u. (g u).value)) (of_whole (pos 0)) before after → Climbed w r start after.grades after.ring
-  climbed_given start before after is held given = record {
-    held = subst (λ (xs : List ℕ). Held w xs r) (sym given.ring) held;
-    grades = when_true (ltb 0 r.hops) _ _ some (record {
-      best = subst (λ (s : Thresholds). BestLoose w s (λ u. (grade_at after.grades u).value)) is_at given.grades;
-      others = λ u f. given.others u f ∙ ap (λ (gs : List Whole). grade_at gs u) is;
-    });
-  }
-
--- a circle in hand
-pub climbed_circle : (w : View) (r : Ratio) (before after : List Whole) (xs : List ℕ) → Held w xs r → after ≡ before → ltb 0 r.hops ≡ false → Climbed w r before after xs
-climbed_circle w r before after xs held is none = record { held = held; grades = when_false (ltb 0 r.hops) _ _ none is }
-
-some_of : (m n t1 t2 : ℕ) → n * t2 < m * t1 → 1 ≤ m
-some_of zero n t1 t2 l = absurd (omega (arith, zero-mul t1))
-some_of (suc m) n t1 t2 l = omega arith
-
 -- One turn. The first k bytes of xs are a ring that forbids at t1 = h and t2 = e, for the ratio e to h in hand; r counts its steps.
--- A ring forbids only by its marks, so it has one, and r is shown by a ring again.
 -- That it forbids is by its counts just that its ratio is the greater one, so less is left above it.
 module _ (w : View) (best r : Ratio) (t : Thresholds) (is_at : t ≡ thresholds_at best.marks best.hops) (xs : List ℕ) (k : ℕ) (short : k ≤ 64) (forbids : ForbidsLoosely w t (take k xs))
     (tally : Tally) (few : (tally.marks ≤ 64) × (tally.hops ≤ 64)) (counted : Counted w (take k xs) (length (take k xs)) tally) (is_r : r ≡ ratio tally.marks tally.hops k) where
   -- by its counts the ring has f·t1 > k·t2
   forbids_by : tally.hops * t.t2 < tally.marks * t.t1
   forbids_by = subst₂ (λ (m n : ℕ). n * t.t2 < m * t.t1) (sym counted.marks) (sym counted.hops) forbids.forbids
-
-  pub held_next : Held w xs r
-  held_next = subst (Held w xs) (sym is_r) (record {
-    few_marks = few.0;
-    few_hops = few.1;
-    short = short;
-    shown = inr (record { ring = forbids.ring; marks = sym counted.marks; hops = sym counted.hops; some = some_of tally.marks tally.hops t.t1 t.t2 forbids_by });
-  })
 
   -- with t1 = h and t2 = e that is f/k > e/h
   pub room_next : ltb 0 best.hops ≡ true → best.hops ≤ 64 → room_above r.marks r.hops < room_above best.marks best.hops

@@ -1,9 +1,9 @@
 -- Bits collected one after another. Assumes nothing.
-use Rattle.std.proofs.Common.{◌≡◌, ℕ, ◌+◌, ◌<◌, ◌≤◌, Bool, true, false, cond, not, ◌&&◌, ltb, sym, refl, ap, ◌∙◌, ⊎_elim, arith}
+use Rattle.std.proofs.Common.{◌≡◌, ℕ, ◌+◌, ◌<◌, ◌≤◌, Bool, true, false, cond, not, ◌&&◌, ltb, Some, None, sym, refl, ap, ◌∙◌, ⊎_elim, arith}
 use Rattle.std.proofs.lemmas.Bool.{cases_eq, cases_lt, lt-ltb, le-ltb, eq-eqb, ne_eqb}
 use Rattle.model.specs.Sets.{has, put}
 use Rattle.model.specs.Views.{View, two, step, is_mark, is_hop}
-use Rattle.model.specs.declared.step.Step.TheVariants.{Mark, Hop, NoStep}
+use Rattle.model.specs.declared.step.Step.TheVariants.{Mark, Hop}
 use Rattle.model.specs.Views.{marks, hops}
 use Rattle.model.proofs.Digits.{has_zero}
 use Rattle.grading.specs.Graphs.{Collected, both_in}
@@ -50,7 +50,7 @@ pub mark_by : (w : View) (u v : ℕ) → is_mark w u v ≡ (two w u v && w.marke
 unfolding step
 mark_by w u v = go (two w u v) (w.marked u v) (w.marked v u)
   where
-    go : (t a b : Bool) → marks (cond t (cond a Mark (cond b NoStep Hop)) NoStep) ≡ (t && a)
+    go : (t a b : Bool) → marks (cond t (cond a (Some Mark) (cond b None (Some Hop))) None) ≡ (t && a)
     go true true b = refl
     go true false true = refl
     go true false false = refl
@@ -60,7 +60,7 @@ pub hop_by : (w : View) (u v : ℕ) → is_hop w u v ≡ (two w u v && (not (w.m
 unfolding step
 hop_by w u v = go (two w u v) (w.marked u v) (w.marked v u)
   where
-    go : (t a b : Bool) → hops (cond t (cond a Mark (cond b NoStep Hop)) NoStep) ≡ (t && (not a && not b))
+    go : (t a b : Bool) → hops (cond t (cond a (Some Mark) (cond b None (Some Hop))) None) ≡ (t && (not a && not b))
     go true true b = refl
     go true false true = refl
     go true false false = refl

@@ -3,9 +3,6 @@ pub mod Drawing
 pub mod Rounds
 pub mod Spelling
 pub mod Checked
-pub mod Numbered
-pub mod Scales
-pub mod Paired
 pub mod Counting
 pub mod Measures
 pub mod Climbing

@@ -1,8 +1,5 @@
 -- The turns of the relaxation's loops, and what its rounds come to. Assumes nothing.
-use Rattle.std.proofs.Common.{◌≡◌, ℕ, suc, ◌+◌, ◌-◌, ◌*◌, ◌<◌, ◌≤◌, Bool, true, false, cond, ◌&&◌, List, length, get_or, set, sym, ap, ◌∙◌, subst, zero-add, add-one, arith, rules, below_more}
-use borrow.Rule.Slice.PartMut.{put_mid}
-use Rattle.std.proofs.lemmas.List.{places}
-use Rattle.std.proofs.lemmas.List.Edits.{fill_by_more}
+use Rattle.std.proofs.Common.{◌≡◌, ℕ, suc, ◌+◌, ◌-◌, ◌<◌, ◌≤◌, Bool, true, false, cond, ◌&&◌, List, [], ◌≢◌, length, get_or, set, get_or-set_other, get_or-set_same, sym, ap, ◌∙◌, subst, zero-add, add-one, arith, below_more}
 use Rattle.scale.specs.declared.scale.Scale.{Ghosts}
 use Rattle.scale.specs.Scales.{Lawful}
 use Rattle.paths.specs.Steps.{Steps}
@@ -22,7 +19,7 @@ module _ {V : Type 0} (s : Ghosts V) (steps : Steps V) (prev : ℕ → V) (u : �
   pub relaxed_none : (r : Reached V) → r.least ≡ prev u → r.next ≡ 64 → Relaxed s steps prev u 0 r
   relaxed_none r e f = record { least = e ∙ sym (reach_none s steps prev u); next = f ∙ sym (chosen_none s steps prev u) }
 
-  pub relaxed_more : (v : ℕ) (before after : Reached V) → Relaxed s steps prev u v before → Tried s steps prev u v before after → Relaxed s steps prev u (v + 1) after
+  pub relaxed_more : (v : ℕ) (before after : Reached V) → Relaxed s steps prev u v before → Tried s steps (prev v) u v before after → Relaxed s steps prev u (v + 1) after
   relaxed_more v before after r t = record {
     least = t.least ∙ ap (pick s (steps.has u v) (s.plus (steps.cost u v) (prev v))) r.least ∙ sym (reach_more s steps prev u v);
     next = t.next
@@ -31,30 +28,12 @@ module _ {V : Type 0} (s : Ghosts V) (steps : Steps V) (prev : ℕ → V) (u : �
         ∙ sym (chosen_more s steps prev u v);
   }
 
--- ---- one round
-fill_more : {X : Type 0} (f : ℕ → X) (xs : List X) (i : ℕ) (d x : X) → i < length xs → x ≡ f i → ((k : ℕ) → k < i → get_or xs k d ≡ f k) → (k : ℕ) → k < i + 1 → get_or (set xs i x) k d ≡ f k
-fill_more {X} f xs i d x h e below k l = subst (λ (z : X). get_or (set xs i z) k d ≡ f k) (sym e) (fill_by_more f xs i d h below k l)
-
-pub rounded_more : {V : Type 0} (s : Ghosts V) (steps : Steps V) (prev : ℕ → V) (u : ℕ) (to : List V) (next : List ℕ) (r : Reached V) → u < length to → u < length next
-    → Rounded s steps prev u to next → Relaxed s steps prev u 64 r → Rounded s steps prev (u + 1) (set to u r.least) (set next u r.next)
-rounded_more s steps prev u to next r a b done here = record {
-  least = fill_more (λ v. reach s steps prev v 64) to u s.nothing r.least a here.least done.least;
-  nexts = fill_more (λ v. chosen s steps prev v 64) next u 0 r.next b here.next done.nexts;
-}
-
 -- ---- all rounds
--- a part of a list is written: what stands before it, and what stands in it
-mid_before : (a k p : ℕ) (xs ys : List ℕ) → p < a → a ≤ length xs → get_or (put_mid a k xs ys) p 0 ≡ get_or xs p 0
-mid_before a k p xs ys h l = search (rules, places)
-
-mid_inside : (a k w : ℕ) (xs ys : List ℕ) → w < length ys → a ≤ length xs → get_or (put_mid a k xs ys) (a + w) 0 ≡ get_or ys w 0
-mid_inside a k w xs ys h l = search (rules, places)
-
 module _ {V : Type 0} (s : Ghosts V) (laws : Lawful s) (p : Problem V) where
   abbrev steps : Steps V
   steps = problem_steps p
 
-  pub cost_extent : Costs s p → (u v : ℕ) → s.extent ((problem_steps p).cost u v) 1
+  cost_extent : Costs s p → (u v : ℕ) → s.extent ((problem_steps p).cost u v) 1
   cost_extent c u v = go (graph_marks p.graph u v)
     where
       go : (b : Bool) → s.extent (cond b p.mark p.hop) 1
@@ -67,7 +46,7 @@ module _ {V : Type 0} (s : Ghosts V) (laws : Lawful s) (p : Problem V) where
       let e : (64 - k) + k ≡ 64 = omega arith in
       subst (λ (n : ℕ). Walk s steps n u (level s steps 64 k u)) e (walk_longer s steps k (64 - k) u (level s steps 64 k u) (level_walk s laws steps k u))
 
-  pub running_ready : (k : ℕ) (old : List V) (ns : List ℕ) → length old ≡ 64 → Costs s p → Running s steps k old ns → Ready s p old
+  pub running_ready : (k : ℕ) (old : List V) (ns : List (List ℕ)) → length old ≡ 64 → Costs s p → Running s steps k old ns → Ready s p old
   running_ready k old ns len c run =
       let h : k < 64 = run.early in
       record {
@@ -76,14 +55,14 @@ module _ {V : Type 0} (s : Ghosts V) (laws : Lawful s) (p : Problem V) where
         extents = λ u l. subst (λ (z : V). s.extent z 64) (sym (run.layer u l)) (walk_extent s laws steps (cost_extent c) 64 u (level s steps 64 k u) (omega arith) (walk_64 k u (omega arith)));
       }
 
-  pub running_none : (old : List V) (ns : List ℕ) → ((u : ℕ) → u < 64 → at s old u ≡ s.nothing) → Running s steps 0 old ns
+  pub running_none : (old : List V) (ns : List (List ℕ)) → ((u : ℕ) → u < 64 → at s old u ≡ s.nothing) → Running s steps 0 old ns
   running_none old ns f = record {
     early = omega arith;
     layer = λ u l. f u l ∙ sym (level_none s steps 64 u);
     nexts = λ j l. absurd (omega arith);
   }
 
-  module _ (k : ℕ) (old new : List V) (ns part : List ℕ) (run : Running s steps k old ns) (rounded : Rounded s steps (at s old) 64 new part) where
+  module _ (k : ℕ) (old new : List V) (ns : List (List ℕ)) (part : List ℕ) (run : Running s steps k old ns) (rounded : Rounded s steps (at s old) 64 new part) where
     -- the round from the layer k is the layer k + 1
     new_layer : (u : ℕ) → u < 64 → at s new u ≡ level s steps 64 (suc k) u
     new_layer u l = rounded.least u l ∙ reach_same s steps (at s old) (level s steps 64 k) u 64 (run.layer u l) run.layer ∙ sym (level_more s steps 64 k u)
@@ -106,28 +85,28 @@ module _ {V : Type 0} (s : Ghosts V) (laws : Lawful s) (p : Problem V) where
         under u = rw (level_none s steps 64 u, zero-add k) at (level_down s laws steps 64 0 k u)
 
     -- the rows after the round
-    abbrev rows : List ℕ
-    rows = put_mid (k * 64) (k * 64 + 64 - k * 64) ns part
+    abbrev rows : List (List ℕ)
+    rows = set ns k part
 
-    rows_more : length ns ≡ 4096 → length part ≡ 64 → (j : ℕ) → j < k + 1 → NextRow s steps rows j
-    rows_more ln lp =
-        let h : k < 64 = run.early in
+    rows_more : length ns ≡ 64 → (j : ℕ) → j < k + 1 → NextRow s steps rows j
+    rows_more ln =
+        let h : k < length ns = omega (arith, run.early) in
         below_more (NextRow s steps rows) k
-        (λ j l v lv. mid_before (k * 64) (k * 64 + 64 - k * 64) (j * 64 + v) ns part (omega arith) (omega arith) ∙ run.nexts j l v lv)
-        (λ v lv. mid_inside (k * 64) (k * 64 + 64 - k * 64) v ns part (omega arith) (omega arith) ∙ new_nexts v lv)
+        (λ j l v lv. let ne : j ≢ k = omega arith in ap (λ (row : List ℕ). get_or row v 0) (get_or-set_other ns k j part [] ne) ∙ run.nexts j l v lv)
+        (λ v lv. ap (λ (row : List ℕ). get_or row v 0) (get_or-set_same ns k part [] h) ∙ new_nexts v lv)
 
     -- a fall: the way down is in the rows
-    pub fallen_made : (u : ℕ) → length ns ≡ 4096 → length part ≡ 64 → Fall s old new u → Fallen s steps rows k u
-    fallen_made u ln lp fall = record {
+    pub fallen_made : (u : ℕ) → length ns ≡ 64 → Fall s old new u → Fallen s steps rows k u
+    fallen_made u ln fall = record {
       early = run.early;
       record_low = fall.0;
       falls = rw (new_layer u fall.0, run.layer u fall.0) at fall.1;
-      nexts = rows_more ln lp;
+      nexts = rows_more ln;
     }
 
-    pub running_more : (kept : List V) → kept ≡ new → k + 1 < 64 → length ns ≡ 4096 → length part ≡ 64 → Running s steps (k + 1) kept rows
-    running_more kept e early ln lp = record {
+    pub running_more : (kept : List V) → kept ≡ new → k + 1 < 64 → length ns ≡ 64 → Running s steps (k + 1) kept rows
+    running_more kept e early ln = record {
       early = early;
       layer = λ v l. ap (λ (xs : List V). at s xs v) e ∙ new_layer v l ∙ ap (λ (n : ℕ). level s steps 64 n v) (sym (add-one k));
-      nexts = rows_more ln lp;
+      nexts = rows_more ln;
     }

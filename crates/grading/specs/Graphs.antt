@@ -20,10 +20,10 @@ unmarked_in rows u v = not (has (slice_index rows u) v) && not (has (slice_index
 abbrev pub unmarked_from : ℕ → List ℕ → ℕ → ℕ → Bool
 unmarked_from set rows u v = both_in set u v && unmarked_in rows u v
 
--- the first n rows are the marks of the view
-pub record MarkRows (w : View) (n : ℕ) (rows : List ℕ) : Type 0 where
+-- 64 rows, and row u collects the test at u
+pub record Rows (f : ℕ → ℕ → Bool) (rows : List ℕ) : Type 0 where
   pub long : length rows ≡ 64
-  pub each : (u : ℕ) → u < n → Collected (is_mark w u) 64 (slice_index rows u)
+  pub each : (u : ℕ) → u < 64 → Collected (f u) 64 (slice_index rows u)
 
 -- the graph draws the view: bit for bit what stands, its marks and its hops
 pub record Draws (w : View) (g : Graph) : Type 0 where

@@ -1,26 +1,31 @@
--- The outcomes of loose, strict and unit grading. Assumes nothing.
-use Rattle.std.specs.Prelude.{pos, Result}
-use Rattle.model.specs.declared.decline.Decline.{Decline}
+-- What loose, strict and unit grading give, and what forbids it. Assumes nothing.
+use Rattle.std.specs.Prelude.{ℕ, Bool, List}
 use Rattle.model.specs.declared.thresholds.Thresholds.{Thresholds}
 use Rattle.model.specs.Views.{View}
+use Rattle.scale.specs.declared.scale.Scale.{Ghosts}
 use Rattle.scale.specs.declared.whole.Whole.{Whole}
 use Rattle.scale.specs.declared.unit.Unit.{Unit as Units}
 use Rattle.scale.specs.declared.pair.Pair.{Pair}
-use Rattle.scale.specs.Wholes.{of_whole}
-use Rattle.scale.specs.Units.{of_unit}
-use Rattle.scale.specs.Pairs.{both}
-use Rattle.grading.specs.Outcomes.{Memory, Outcome}
-use Rattle.grading.specs.Numbers.{BestLoose, ForbidsLoosely, BestStrict, ForbidsStrictly}
+use Rattle.paths.specs.Numbers.{BestLoose, ForbidsLoosely, BestStrict, ForbidsStrictly}
 
-abbrev pub LooseGrades : View → Thresholds → Memory Whole → Memory Whole → Result (Unit {0}) Decline → Type 0
-LooseGrades w t before after r = Outcome w t (λ g. BestLoose w t (λ u. (g u).value)) (of_whole (pos 0)) (ForbidsLoosely w t) before after r
+-- a scale by the ghost members of its trait
+abbrev pub scale_of : {V : Type 0} → V → (V → V → V) → (V → V → V) → (V → V → Bool) → (Thresholds → V) → (Thresholds → V) → (V → ℕ → Type 0) → Ghosts V
+scale_of nothing plus sum less mark hop extent = record { nothing = nothing; plus = plus; sum = sum; less = less; mark = mark; hop = hop; extent = extent }
 
-abbrev pub StrictGrades : View → Thresholds → Memory (Pair Whole Units) → Memory (Pair Whole Units) → Result (Unit {0}) Decline → Type 0
-StrictGrades w t before after r = Outcome w t (BestStrict w t) (both (of_whole (pos 0)) (of_unit (pos 0))) (ForbidsStrictly w t) before after r
+abbrev pub loose_asked : View → Thresholds → (ℕ → Whole) → Type 0
+loose_asked w t g = BestLoose w t (λ u. (g u).value)
 
--- a mark leads up by at least 1, and a hop not at all
-abbrev pub unit_thresholds : Thresholds
-unit_thresholds = record { t1 = 1; t2 = 0 }
+abbrev pub loose_forbidden : View → Thresholds → List ℕ → Type 0
+loose_forbidden = ForbidsLoosely
 
-abbrev pub UnitGrades : View → Memory Units → Memory Units → Result (Unit {0}) Decline → Type 0
-UnitGrades w before after r = Outcome w unit_thresholds (λ g. BestLoose w unit_thresholds (λ u. (g u).value)) (of_unit (pos 0)) (ForbidsLoosely w unit_thresholds) before after r
+abbrev pub strict_asked : View → Thresholds → (ℕ → Pair Whole Units) → Type 0
+strict_asked = BestStrict
+
+abbrev pub strict_forbidden : View → Thresholds → List ℕ → Type 0
+strict_forbidden = ForbidsStrictly
+
+abbrev pub unit_asked : View → Thresholds → (ℕ → Units) → Type 0
+unit_asked w t g = BestLoose w t (λ u. (g u).value)
+
+abbrev pub unit_forbidden : View → Thresholds → List ℕ → Type 0
+unit_forbidden = ForbidsLoosely

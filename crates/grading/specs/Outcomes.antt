@@ -1,5 +1,5 @@
 -- What a grading call answers, and what it leaves in the memory that was brought. Assumes nothing.
-use Rattle.std.specs.Prelude.{◌≡◌, ℕ, ◌<◌, ◌≤◌, Bool, false, ◌&&◌, List, length, get_or, take, Some, None, Ok, Err, MatchBool, Option, Result, nat_le, slice_index, slice_index_or}
+use Rattle.std.specs.Prelude.{◌≡◌, ℕ, ◌<◌, ◌≤◌, Bool, false, ◌&&◌, List, length, get_or, take, Ok, Err, MatchBool, Result, nat_le, slice_index, slice_index_or}
 use Rattle.model.specs.declared.decline.Decline.{Decline}
 use Rattle.model.specs.declared.thresholds.Thresholds.{Thresholds}
 use Rattle.model.specs.Limits.{within_limits}
@@ -7,6 +7,8 @@ use Rattle.model.specs.Refusals.{number_of, ring_length, answer_number}
 use Rattle.model.specs.Views.{View}
 use Rattle.scale.specs.declared.scale.Scale.{Ghosts}
 use Rattle.paths.specs.Bests.{Best, Forbids}
+use Rattle.grading.specs.declared.memory.Memory.{Memory as Lent}
+use Rattle.grading.specs.declared.forbidden.Forbidden.{Forbidden}
 
 -- grades, ring bytes, scratch values and scratch bytes
 pub record Memory (V : Type 0) : Type 0 where
@@ -17,6 +19,17 @@ pub record Memory (V : Type 0) : Type 0 where
 
 abbrev pub memory : {V : Type 0} → List V → List ℕ → List V → List ℕ → Memory V
 memory grades ring values bytes = record { grades = grades; ring = ring; values = values; bytes = bytes }
+
+-- what stands in memory that is lent
+abbrev pub brought : {V : Type 0} → Lent V → Memory V
+brought m = memory m.grades.now m.ring.now m.values.now m.bytes.now
+
+-- the same memory is lent after a call as before, and is as long: its owner finds there what the call left
+pub record SameLent {V : Type 0} (before after : Lent V) : Type 0 where
+  pub grades : (after.grades.ghost_name ≡ before.grades.ghost_name) × (length after.grades.now ≡ length before.grades.now)
+  pub ring : (after.ring.ghost_name ≡ before.ring.ghost_name) × (length after.ring.now ≡ length before.ring.now)
+  pub values : (after.values.ghost_name ≡ before.values.ghost_name) × (length after.values.now ≡ length before.values.now)
+  pub bytes : (after.bytes.ghost_name ≡ before.bytes.ghost_name) × (length after.bytes.now ≡ length before.bytes.now)
 
 -- 64 grades, 64 ring bytes, 4,160 values and 4,160 bytes
 abbrev pub enough : ℕ → ℕ → ℕ → ℕ → Bool
@@ -43,10 +56,10 @@ pub record Shown {V : Type 0} (forbids : List ℕ → Type 0) (k : ℕ) (before 
   pub past : (i : ℕ) → k ≤ i → slice_index after.ring i ≡ slice_index before.ring i
   pub grades : after.grades ≡ before.grades
 
--- None: grades as asked for. Some k: a ring of k records that forbids them. What scratch holds is free
-abbrev pub Attempt : {V : Type 0} → View → ((ℕ → V) → Type 0) → V → (List ℕ → Type 0) → Memory V → Memory V → Option ℕ → Type 0
-Attempt w asked none forbids before after None = Given w asked none before after
-Attempt w asked none forbids before after (Some k) = Shown forbids k before after
+-- grades as asked for, or a ring that forbids them; what scratch holds is free
+abbrev pub Attempt : {V : Type 0} → View → ((ℕ → V) → Type 0) → V → (List ℕ → Type 0) → Memory V → Memory V → Result (Unit {0}) Forbidden → Type 0
+Attempt w asked none forbids before after (Ok x) = Given w asked none before after
+Attempt w asked none forbids before after (Err f) = Shown forbids f.ring before after
 
 -- grades as asked for, or declined by 13 with a ring that forbids them; what scratch holds is free
 abbrev pub Solved : {V : Type 0} → View → ((ℕ → V) → Type 0) → V → (List ℕ → Type 0) → Memory V → Memory V → Result (Unit {0}) Decline → Type 0

@@ -10,7 +10,7 @@ use Rattle.scale.specs.declared.whole.Whole.{Whole}
 use Rattle.scale.specs.Wholes.{of_whole}
 use Rattle.grading.specs.declared.ratio.Ratio.{Ratio}
 use Rattle.grading.specs.Outcomes.{Memory, suffices, Declined, Shown}
-use Rattle.grading.specs.Numbers.{BestLoose}
+use Rattle.paths.specs.Numbers.{BestLoose}
 
 abbrev pub grade_at : List Whole → ℕ → Whole
 grade_at grades u = slice_index_or grades u (of_whole (pos 0))

@@ -6,10 +6,10 @@ use Rattle.paths.specs.Levels.{pick, reach, chosen}
 use Rattle.grading.specs.declared.relax.Reached.{Reached}
 use Rattle.grading.specs.Problems.{at}
 
--- `before` after the step from u to v is tried
-pub record Tried {V : Type 0} (s : Ghosts V) (steps : Steps V) (prev : ℕ → V) (u v : ℕ) (before after : Reached V) : Type 0 where
-  pub least : after.least ≡ pick s (steps.has u v) (s.plus (steps.cost u v) (prev v)) before.least
-  pub next : after.next ≡ cond (steps.has u v && s.less (s.plus (steps.cost u v) (prev v)) before.least) v before.next
+-- `before` after the step from u to v is tried, with the value that is there
+pub record Tried {V : Type 0} (s : Ghosts V) (steps : Steps V) (there : V) (u v : ℕ) (before after : Reached V) : Type 0 where
+  pub least : after.least ≡ pick s (steps.has u v) (s.plus (steps.cost u v) there) before.least
+  pub next : after.next ≡ cond (steps.has u v && s.less (s.plus (steps.cost u v) there) before.least) v before.next
 
 -- all steps from u to records below n are tried
 pub record Relaxed {V : Type 0} (s : Ghosts V) (steps : Steps V) (prev : ℕ → V) (u n : ℕ) (r : Reached V) : Type 0 where

@@ -1,15 +1,9 @@
 -- Places of a walk: records not seen before, the smallest, and the ring as it is written. Assumes nothing.
-use Rattle.std.specs.Prelude.{◌≡◌, ℕ, ◌+◌, ◌-◌, ◌%◌, ◌<◌, ◌≤◌, List, length, ◌≢◌, slice_index}
+use Rattle.std.specs.Prelude.{◌≡◌, ℕ, ◌+◌, ◌-◌, ◌%◌, ◌<◌, ◌≤◌, List, ◌≢◌, slice_index}
 
 -- none of the first n places has the record at the place high
 abbrev pub Unseen : List ℕ → ℕ → ℕ → Type 0
 Unseen ys high n = (i : ℕ) → i < n → slice_index ys i ≢ slice_index ys high
-
--- places low < high of a walk of 65
-pub record Part (ys : List ℕ) (low high : ℕ) : Type 0 where
-  pub long : length ys ≡ 65
-  pub order : low < high
-  pub within : high ≤ 64
 
 -- the place r has the smallest number above low, up to high
 pub record Smallest (ys : List ℕ) (low high r : ℕ) : Type 0 where

@@ -1,5 +1,5 @@
 -- What rounds of relaxation come to. Assumes nothing.
-use Rattle.std.specs.Prelude.{◌≡◌, ℕ, ◌+◌, ◌*◌, ◌<◌, false, List, slice_index}
+use Rattle.std.specs.Prelude.{◌≡◌, ℕ, ◌+◌, ◌<◌, false, List, [], slice_index, slice_index_or}
 use Rattle.scale.specs.declared.scale.Scale.{Ghosts}
 use Rattle.paths.specs.Steps.{Steps, Meets}
 use Rattle.paths.specs.Levels.{chosen, level}
@@ -14,17 +14,17 @@ pub record Settled {V : Type 0} (s : Ghosts V) (steps : Steps V) (p : ℕ → V)
   pub walk : (u : ℕ) → u < 64 → Walk s steps 64 u (p u)
 
 -- row j of ns says what each record of the layer j + 1 is reached by
-abbrev pub NextRow : {V : Type 0} → Ghosts V → Steps V → List ℕ → ℕ → Type 0
-NextRow s steps ns j = (u : ℕ) → u < 64 → slice_index ns (j * 64 + u) ≡ chosen s steps (level s steps 64 j) u 64
+abbrev pub NextRow : {V : Type 0} → Ghosts V → Steps V → List (List ℕ) → ℕ → Type 0
+NextRow s steps ns j = (u : ℕ) → u < 64 → slice_index (slice_index_or ns j []) u ≡ chosen s steps (level s steps 64 j) u 64
 
 -- after k rounds, fewer than 64: `old` is the layer k, and the rows below k say what the layers are reached by
-pub record Running {V : Type 0} (s : Ghosts V) (steps : Steps V) (k : ℕ) (old : List V) (ns : List ℕ) : Type 0 where
+pub record Running {V : Type 0} (s : Ghosts V) (steps : Steps V) (k : ℕ) (old : List V) (ns : List (List ℕ)) : Type 0 where
   pub early : k < 64
   pub layer : (u : ℕ) → u < 64 → at s old u ≡ level s steps 64 k u
   pub nexts : (j : ℕ) → j < k → NextRow s steps ns j
 
 -- the layer k + 1 is below the layer k at u, and ns has the way down
-pub record Fallen {V : Type 0} (s : Ghosts V) (steps : Steps V) (ns : List ℕ) (k u : ℕ) : Type 0 where
+pub record Fallen {V : Type 0} (s : Ghosts V) (steps : Steps V) (ns : List (List ℕ)) (k u : ℕ) : Type 0 where
   pub early : k < 64
   pub record_low : u < 64
   pub falls : Falls s steps k u

@@ -7,18 +7,11 @@ ghost use Rattle.grading.specs.Problems.{graph_marks, graph_hops};
 ghost use Rattle.grading.specs.Counts.{Counted};
 
 use crate::graph::Graph;
-use model::bits::has_bit;
 
 #[derive(Clone, Copy)]
 pub struct Tally {
     pub marks: u8,
     pub hops: u8,
-}
-
-fn one_if(is: bool) -> u8
-    ensures { result ≡ bit is }
-{
-    if is { 1 } else { 0 }
 }
 
 // The counts so far and the step from u to v, which is a mark or a hop.
@@ -28,8 +21,8 @@ fn add_step(graph: &Graph, u: usize, v: usize, tally: Tally) -> Tally
     ensures hops { result.hops ≡ tally.hops + bit (graph_hops graph.now u v) }
 {
     Tally {
-        marks: tally.marks + one_if(has_bit(graph.marks[u], v)),
-        hops: tally.hops + one_if(has_bit(graph.hops[u], v)),
+        marks: tally.marks + u8::from(graph.has_mark(u, v)),
+        hops: tally.hops + u8::from(graph.has_hop(u, v)),
     }
 }
 
@@ -40,13 +33,10 @@ pub fn count_steps(graph: &Graph, ring: &[u8]) -> Tally
     ensures counted { (w : View) → Draws w graph.now → Counted w ring.now (length ring.now) result }
 {
     let mut all = Tally { marks: 0, hops: 0 };
-    for i in 0..ring.len() {
-        all = add_step(
-            graph,
-            ring[i] as usize,
-            ring[(i + 1) % ring.len()] as usize,
-            all,
-        );
+    // not the zip with the ring's cycle from 1 on: the proof did not close
+    for (i, u) in ring.iter().enumerate() {
+        let v = ring[(i + 1) % ring.len()];
+        all = add_step(graph, *u as usize, v as usize, all);
     }
     all
 }

@@ -1,13 +1,15 @@
 // What stands and its steps as adjacency rows, read once from a sheet of any make.
-ghost use Rattle.std.specs.Prelude.{◌≡◌, ℕ, ◌+◌, ◌<◌, Bool};
+ghost use Rattle.std.specs.Prelude.{◌≡◌, ℕ, ◌<◌, Bool};
 ghost use Rattle.model.specs.Views.{is_mark};
 ghost use Rattle.sheet.specs.Views.{view_of};
-ghost use Rattle.grading.specs.Graphs.{Collected, both_in, unmarked_in, unmarked_from, MarkRows, Draws};
+ghost use Rattle.grading.specs.Problems.{graph_marks, graph_hops};
+ghost use Rattle.grading.specs.Graphs.{Collected, Rows, both_in, unmarked_in, unmarked_from, Draws};
 
 use model::bits::{has_bit, with_bit};
 use sheet::meaning::Sheet;
 
-// Bit u of `standing` says that u stands, bit v of row u that a mark, or a hop, leads from u to v.
+// Bit u of `standing` says that u stands, bit v of row u that a mark, or a hop, leads from u to v. Marks and hops are two arrays and not
+// one of pairs: each is made whole by `rows`, from a test of its own.
 #[derive(Clone, Copy)]
 pub struct Graph {
     pub standing: u64,
@@ -15,22 +17,58 @@ pub struct Graph {
     pub hops: [u64; 64],
 }
 
-// The set with v in it where `is` says so.
-fn collect_bit(set: u64, v: usize, is: bool) -> u64
-    requires { v < 64 }
-    ensures { (f : ℕ → Bool) → is ≡ f v → Collected f v set → Collected f (v + 1) result }
-{
-    if is { with_bit(set, v) } else { set }
+impl Graph {
+    // Whether a mark leads from u to v.
+    pub fn has_mark(&self, u: usize, v: usize) -> bool
+        requires { u < 64 }
+        ensures { result ≡ graph_marks self.now u v }
+    {
+        has_bit(self.marks[u], v)
+    }
+
+    pub fn has_hop(&self, u: usize, v: usize) -> bool
+        requires { u < 64 }
+        ensures { result ≡ graph_hops self.now u v }
+    {
+        has_bit(self.hops[u], v)
+    }
 }
 
-fn standing_row<S: Sheet>(sheet: &S) -> u64
+// The numbers below 64 that pass, as a set.
+fn collect<F: Fn(usize) -> bool>(passes: F) -> u64
+    requires { (u : ℕ) → u < 64 → F.pre passes u }
+    ensures { (f : ℕ → Bool) → ((u : ℕ) (b : Bool) → u < 64 → F.post passes u b → b ≡ f u) → Collected f 64 result }
+{
+    let mut set = 0;
+    for u in 0..64 {
+        if passes(u) {
+            set = with_bit(set, u);
+        }
+    }
+    set
+}
+
+// Row u has the numbers v for which u and v pass.
+fn rows<F: Fn(usize, usize) -> bool>(passes: F) -> [u64; 64]
+    requires { (u v : ℕ) → u < 64 → v < 64 → F.pre passes u v }
+    ensures { (f : ℕ → ℕ → Bool) → ((u v : ℕ) (b : Bool) → u < 64 → v < 64 → F.post passes u v b → b ≡ f u v) → Rows f result }
+{
+    let mut all = [0; 64];
+    // not from_fn: its closure would need both clauses of this function again
+    for (u, row) in all.iter_mut().enumerate() {
+        *row = collect(
+            |v|
+                requires { F.pre passes u v }
+            { passes(u, v) },
+        );
+    }
+    all
+}
+
+fn standing_of<S: Sheet>(sheet: &S) -> u64
     ensures { Collected (view_of S.Sheet sheet.now).stands 64 result }
 {
-    let mut row = 0;
-    for u in 0..64 {
-        row = collect_bit(row, u, sheet.state(u as u8).stands());
-    }
-    row
+    collect(|u| sheet.state(u as u8).stands())
 }
 
 // Two different records, and both are in the set.
@@ -47,7 +85,8 @@ fn ask_mark<S: Sheet>(sheet: &S, u: usize, v: usize) -> bool
     sheet.marked(u as u8, v as u8)
 }
 
-// Whether a mark leads from u to v. The sheet is asked of two standing records alone.
+// Whether a mark leads from u to v. The sheet is asked of two standing records alone. That `standing` is what stands is asked in
+// clauses: a type for it would have to have the sheet, which a word has not.
 fn is_marked<S: Sheet>(sheet: &S, standing: u64, u: usize, v: usize) -> bool
     requires { (u < 64) × (v < 64) × Collected (view_of S.Sheet sheet.now).stands 64 standing }
     ensures { result ≡ is_mark (view_of S.Sheet sheet.now) u v }
@@ -55,26 +94,11 @@ fn is_marked<S: Sheet>(sheet: &S, standing: u64, u: usize, v: usize) -> bool
     both(standing, u, v) && ask_mark(sheet, u, v)
 }
 
-fn mark_row<S: Sheet>(sheet: &S, standing: u64, u: usize) -> u64
-    requires { (u < 64) × Collected (view_of S.Sheet sheet.now).stands 64 standing }
-    ensures { Collected (is_mark (view_of S.Sheet sheet.now) u) 64 result }
-{
-    let mut row = 0;
-    for v in 0..64 {
-        row = collect_bit(row, v, is_marked(sheet, standing, u, v));
-    }
-    row
-}
-
-fn mark_rows<S: Sheet>(sheet: &S, standing: u64) -> [u64; 64]
+fn marks_of<S: Sheet>(sheet: &S, standing: u64) -> [u64; 64]
     requires { Collected (view_of S.Sheet sheet.now).stands 64 standing }
-    ensures { MarkRows (view_of S.Sheet sheet.now) 64 result }
+    ensures { Rows (is_mark (view_of S.Sheet sheet.now)) result }
 {
-    let mut rows = [0; 64];
-    for u in 0..64 {
-        rows[u] = mark_row(sheet, standing, u);
-    }
-    rows
+    rows(|u, v| is_marked(sheet, standing, u, v))
 }
 
 // No row has a bit from one of the two to the other.
@@ -85,28 +109,20 @@ fn unmarked(marks: &[u64; 64], u: usize, v: usize) -> bool
     !has_bit(marks[u], v) & !has_bit(marks[v], u)
 }
 
-// The hops from u: to every other standing record that no mark leads to or from.
-fn hop_row(standing: u64, marks: &[u64; 64], u: usize) -> u64
-    requires { u < 64 }
-    ensures { Collected (unmarked_from standing marks.now u) 64 result }
+// The hops lead to every other standing record that no mark leads to or from.
+fn hops_of(standing: u64, marks: &[u64; 64]) -> [u64; 64]
+    ensures { Rows (unmarked_from standing marks.now) result }
 {
-    let mut row = 0;
-    for v in 0..64 {
-        row = collect_bit(row, v, both(standing, u, v) & unmarked(marks, u, v));
-    }
-    row
+    rows(|u, v| both(standing, u, v) & unmarked(marks, u, v))
 }
 
 // The graph of what stands on the sheet.
 pub fn read<S: Sheet>(sheet: &S) -> Graph
     ensures { Draws (view_of S.Sheet sheet.now) result }
 {
-    let standing = standing_row(sheet);
-    let marks = mark_rows(sheet, standing);
-    let mut hops = [0; 64];
-    for u in 0..64 {
-        hops[u] = hop_row(standing, &marks, u);
-    }
+    let standing = standing_of(sheet);
+    let marks = marks_of(sheet, standing);
+    let hops = hops_of(standing, &marks);
     Graph {
         standing,
         marks,

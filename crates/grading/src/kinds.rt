@@ -1,116 +1,104 @@
-// Loose, strict and unit grading: grading on the whole scale, on the pair of whole and unit, and on the unit scale,
-// told in whole numbers. Memory and refusals are those of grade.
-ghost use Rattle.std.specs.Prelude.{◌≡◌};
+// The kinds of grading that are told in whole numbers: loose on the whole scale, strict on the pair of whole and unit, and unit
+// grading on the unit scale. Memory and refusals are those of grade.
+ghost use Rattle.std.specs.Prelude.{◌≡◌, ℕ, List};
+ghost use Rattle.model.specs.declared.thresholds.Thresholds.{Thresholds};
+ghost use Rattle.model.specs.Views.{View};
 ghost use Rattle.sheet.specs.Views.{view_of};
-ghost use Rattle.grading.specs.Outcomes.{memory as brought, Grades};
-ghost use Rattle.grading.specs.Kinds.{unit_thresholds, LooseGrades, StrictGrades, UnitGrades};
-ghost use Rattle.scale.specs.Scales.{whole_scale, unit_scale, pair_scale};
+ghost use Rattle.paths.specs.Bests.{Best, Forbids};
+ghost use Rattle.grading.specs.Outcomes.{brought, SameLent, Outcome};
+ghost use Rattle.paths.specs.Numbers.{unit_thresholds};
+ghost use Rattle.grading.specs.Kinds.{scale_of, loose_asked, strict_asked, unit_asked, loose_forbidden, strict_forbidden, unit_forbidden};
+ghost use Rattle.grading.specs.KindLaws.{loose_given, loose_shown, strict_given, strict_shown, unit_given, unit_shown};
 
 use crate::grade::grade;
+use crate::memory::Memory;
 use model::decline::Decline;
 use model::thresholds::Thresholds;
 use scale::pair::Pair;
+use scale::scale::Scale;
 use scale::unit::Unit;
 use scale::whole::Whole;
 use sheet::meaning::Sheet;
 
-// Grading on the whole scale.
-fn on_wholes<S: Sheet>(
+// A scale whose best values are grades in whole numbers.
+pub trait Kind: Scale {
+    // the thresholds that count where some are given
+    ghost counted: { Thresholds → Thresholds };
+
+    // the grades that are given
+    ghost asked: { View → Thresholds → (ℕ → Self) → Type 0 };
+
+    // the rings that forbid such grades
+    ghost forbids: { View → Thresholds → List ℕ → Type 0 };
+
+    fn counted(given: Thresholds) -> Thresholds
+        ensures { result ≡ counted given };
+
+    ghost given: { (w : View) (t : Thresholds) (g : ℕ → Self) → Best (scale_of Self.nothing Self.plus Self.sum Self.less Self.mark Self.hop Self.extent) w (counted t) g → asked w (counted t) g };
+
+    ghost shown: { (w : View) (t : Thresholds) (xs : List ℕ) → Forbids (scale_of Self.nothing Self.plus Self.sum Self.less Self.mark Self.hop Self.extent) w (counted t) xs → forbids w (counted t) xs };
+}
+
+// Loose: the highest grading to the denominator 1 without a grade above 0.
+impl Kind for Whole {
+    ghost counted = { λ t. t };
+
+    ghost asked = { loose_asked };
+
+    ghost forbids = { loose_forbidden };
+
+    ghost given = { loose_given };
+
+    ghost shown = { loose_shown };
+
+    fn counted(given: Thresholds) -> Thresholds {
+        given
+    }
+}
+
+// Strict: the greatest pairs a, b that stand for a strict grading 128·a + b to the denominator 128.
+impl Kind for Pair<Whole, Unit> {
+    ghost counted = { λ t. t };
+
+    ghost asked = { strict_asked };
+
+    ghost forbids = { strict_forbidden };
+
+    ghost given = { strict_given };
+
+    ghost shown = { strict_shown };
+
+    fn counted(given: Thresholds) -> Thresholds {
+        Whole::counted(given)
+    }
+}
+
+// Unit: the highest grading in which every mark leads up by at least 1 and every hop not at all, whatever thresholds are given.
+impl Kind for Unit {
+    ghost counted = { λ _. unit_thresholds };
+
+    ghost asked = { unit_asked };
+
+    ghost forbids = { unit_forbidden };
+
+    ghost given = { unit_given };
+
+    ghost shown = { unit_shown };
+
+    fn counted(_given: Thresholds) -> Thresholds {
+        Thresholds { t1: 1, t2: 0 }
+    }
+}
+
+// Grading of a kind: the grades that it asks for, or a ring that forbids them. Declines by 1, 11, 13.
+pub fn graded<S: Sheet, V: Kind>(
     sheet: &S,
     thresholds: Thresholds,
-    grades: &mut [Whole],
-    ring: &mut [u8],
-    values: &mut [Whole],
-    bytes: &mut [u8],
+    memory: &mut Memory<'_, V>,
 ) -> Result<(), Decline>
-    ensures { Grades whole_scale (view_of S.Sheet sheet.now) thresholds
-        (brought grades.old ring.old values.old bytes.old)
-        (brought grades.new ring.new values.new bytes.new) result }
+    ensures graded { Outcome (view_of S.Sheet sheet.now) (V.counted thresholds) (V.asked (view_of S.Sheet sheet.now) (V.counted thresholds))
+        V.nothing (V.forbids (view_of S.Sheet sheet.now) (V.counted thresholds)) (brought memory.old) (brought memory.new) result }
+    ensures same { SameLent memory.old memory.new }
 {
-    grade::<S, Whole>(sheet, thresholds, grades, ring, values, bytes)
-}
-
-// The highest loose grading to the denominator 1 without a grade above 0.
-pub fn loose<S: Sheet>(
-    sheet: &S,
-    thresholds: Thresholds,
-    grades: &mut [Whole],
-    ring: &mut [u8],
-    values: &mut [Whole],
-    bytes: &mut [u8],
-) -> Result<(), Decline>
-    ensures { LooseGrades (view_of S.Sheet sheet.now) thresholds
-        (brought grades.old ring.old values.old bytes.old)
-        (brought grades.new ring.new values.new bytes.new) result }
-{
-    on_wholes(sheet, thresholds, grades, ring, values, bytes)
-}
-
-// Grading on the pair of the whole scale and the unit scale.
-fn on_pairs<S: Sheet>(
-    sheet: &S,
-    thresholds: Thresholds,
-    grades: &mut [Pair<Whole, Unit>],
-    ring: &mut [u8],
-    values: &mut [Pair<Whole, Unit>],
-    bytes: &mut [u8],
-) -> Result<(), Decline>
-    ensures { Grades (pair_scale whole_scale unit_scale) (view_of S.Sheet sheet.now) thresholds
-        (brought grades.old ring.old values.old bytes.old)
-        (brought grades.new ring.new values.new bytes.new) result }
-{
-    grade::<S, Pair<Whole, Unit>>(sheet, thresholds, grades, ring, values, bytes)
-}
-
-// The greatest pairs a, b that stand for a strict grading 128·a + b to the denominator 128.
-pub fn strict<S: Sheet>(
-    sheet: &S,
-    thresholds: Thresholds,
-    grades: &mut [Pair<Whole, Unit>],
-    ring: &mut [u8],
-    values: &mut [Pair<Whole, Unit>],
-    bytes: &mut [u8],
-) -> Result<(), Decline>
-    ensures { StrictGrades (view_of S.Sheet sheet.now) thresholds
-        (brought grades.old ring.old values.old bytes.old)
-        (brought grades.new ring.new values.new bytes.new) result }
-{
-    on_pairs(sheet, thresholds, grades, ring, values, bytes)
-}
-
-// Grading on the unit scale, whose values are the same for all thresholds: for t1 = 1 and t2 = 0 they are the whole scale's.
-fn on_units<S: Sheet>(
-    sheet: &S,
-    grades: &mut [Unit],
-    ring: &mut [u8],
-    values: &mut [Unit],
-    bytes: &mut [u8],
-) -> Result<(), Decline>
-    ensures { Grades unit_scale (view_of S.Sheet sheet.now) unit_thresholds
-        (brought grades.old ring.old values.old bytes.old)
-        (brought grades.new ring.new values.new bytes.new) result }
-{
-    grade(
-        sheet,
-        Thresholds { t1: 1, t2: 0 },
-        grades,
-        ring,
-        values,
-        bytes,
-    )
-}
-
-// The highest grading in which every mark leads up by at least 1 and every hop not at all.
-pub fn unit<S: Sheet>(
-    sheet: &S,
-    grades: &mut [Unit],
-    ring: &mut [u8],
-    values: &mut [Unit],
-    bytes: &mut [u8],
-) -> Result<(), Decline>
-    ensures { UnitGrades (view_of S.Sheet sheet.now)
-        (brought grades.old ring.old values.old bytes.old)
-        (brought grades.new ring.new values.new bytes.new) result }
-{
-    on_units(sheet, grades, ring, values, bytes)
+    grade(sheet, V::counted(thresholds), memory)
 }

@@ -3,9 +3,11 @@
 
 mod count;
 mod descent;
+mod forbidden;
 pub mod grade;
 mod graph;
 pub mod kinds;
+pub mod memory;
 mod problem;
 pub mod ratio;
 mod relax;

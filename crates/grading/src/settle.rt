@@ -1,5 +1,5 @@
 // Rounds of relaxation, until one changes nothing or a ring shows that none ever will.
-ghost use Rattle.std.specs.Prelude.{◌≡◌, ◌<◌, length, MatchOption};
+ghost use Rattle.std.specs.Prelude.{◌≡◌, length, MatchResult};
 ghost use Rattle.paths.specs.Descents.{Loop};
 ghost use Rattle.grading.specs.Problems.{at, problem_steps, Costs};
 ghost use Rattle.grading.specs.Settling.{Settled};
@@ -9,28 +9,27 @@ use crate::problem::Problem;
 use crate::relax::{clear, first_fall, relax_round};
 use scale::scale::Scale;
 
-// None: `old` meets every step. Some(span): the walk has a ring whose sum is below nothing at the span.
+// Ok: `old` meets every step. Err: where on the walk there is a ring whose sum is below nothing.
 pub fn settle<V: Scale>(
     problem: &Problem<V>,
     old: &mut [V],
     new: &mut [V],
-    next: &mut [u8],
-    walk: &mut [u8],
-) -> Option<Span>
-    requires { (length old.old ≡ 64) × (length new.old ≡ 64) × (length next.old ≡ 4096) × (length walk.old ≡ 65) × Costs V.Scale problem.now }
-    ensures { MatchOption result (Settled V.Scale (problem_steps problem.now) (at V.Scale old.new)) (λ s. Loop V.Scale (problem_steps problem.now) walk.new s.low s.high) }
+    next: &mut [[u8; 64]; 64],
+    walk: &mut [u8; 65],
+) -> Result<(), Span>
+    requires { (length old.old ≡ 64) × (length new.old ≡ 64) × Costs V.Scale problem.now }
+    ensures { MatchResult result (λ _. Settled V.Scale (problem_steps problem.now) (at V.Scale old.new)) (λ s. Loop V.Scale (problem_steps problem.now) walk.new s.low s.high) }
 {
     clear(old);
+    // k counts the rounds: the rows up to k are read in the round that writes row k
     for k in 0..64 {
-        relax_round(problem, old, new, &mut next[k * 64..k * 64 + 64]);
-        match first_fall(old, new) {
-            None => return None,
-            Some(u) => {
-                walk_down(problem, next, k, u, walk);
-                if let Some(span) = find_repeat(walk, k + 1) {
-                    return Some(span);
-                }
-            }
+        relax_round(problem, old, new, &mut next[k]);
+        let Some(u) = first_fall(old, new) else {
+            return Ok(());
+        };
+        walk_down(problem, next, k, u, walk);
+        if let Some(span) = find_repeat(walk, k + 1) {
+            return Err(span);
         }
         old.copy_from_slice(new);
     }

@@ -1,44 +1,64 @@
 // A graph solved in memory that was brought: the values of its standing records, or the ring that forbids them.
-ghost use Rattle.std.specs.Prelude.{◌≡◌, ◌+◌, ◌<◌, ◌≤◌, true, List, length};
+ghost use Rattle.std.specs.Prelude.{◌≡◌, ◌<◌, ◌≤◌, true, length};
 ghost use Rattle.model.specs.Limits.{within_limits};
 ghost use Rattle.model.specs.Views.{View};
 ghost use Rattle.model.specs.declared.thresholds.Thresholds.{Thresholds};
 ghost use Rattle.paths.specs.Bests.{Best, Forbids};
 ghost use Rattle.grading.specs.Graphs.{Draws};
-ghost use Rattle.grading.specs.Problems.{Costs, Spells};
-ghost use Rattle.grading.specs.Outcomes.{memory as brought, enough, Attempt};
+ghost use Rattle.grading.specs.Problems.{Costs, Copied, Spells};
+ghost use Rattle.grading.specs.Outcomes.{memory, brought, enough, suffices, SameLent, Attempt};
 
 use crate::descent::write_ring;
-use crate::grade::copy_values;
+use crate::forbidden::Forbidden;
 use crate::graph::Graph;
+use crate::memory::Memory;
 use crate::problem::Problem;
 use crate::settle::settle;
+use model::bits::has_bit;
 use model::thresholds::Thresholds;
 use scale::scale::Scale;
 
-// None: the grades of the standing records are the best values of the problem's view. Some(k): the first k ring bytes forbid them.
+// Copies the values at the records of the set, and leaves all other places: so this is no copy of a slice.
+fn copy_values<V: Scale>(set: u64, from: &[V], to: &mut [V])
+    requires { (length from.now ≡ 64) × (64 ≤ length to.old) }
+    ensures { Copied V.Scale set 64 from.now to.old to.new }
+{
+    for (u, value) in from.iter().enumerate() {
+        if has_bit(set, u) {
+            to[u] = *value;
+        }
+    }
+}
+
+// The best values of the problem's view at its standing records, or a ring that forbids them. The memory comes in its parts: of a
+// part that is split while it lies in the struct, the proof would lose the length.
 fn solve<V: Scale>(
     problem: &Problem<V>,
     grades: &mut [V],
     ring: &mut [u8],
     values: &mut [V],
     bytes: &mut [u8],
-) -> Option<u8>
-    requires { (enough (length grades.old) (length ring.old) (length values.old) (length bytes.old) ≡ true) × Costs V.Scale problem.now }
+) -> Result<(), Forbidden>
+    requires room { enough (length grades.old) (length ring.old) (length values.old) (length bytes.old) ≡ true }
+    requires costs { Costs V.Scale problem.now }
     ensures { (w : View) (t : Thresholds) → Spells V.Scale w t problem.now → Attempt w (Best V.Scale w t) V.Scale.nothing (Forbids V.Scale w t)
-        (brought grades.old ring.old values.old bytes.old)
-        (brought grades.new ring.new values.new bytes.new) result }
+        (memory grades.old ring.old values.old bytes.old)
+        (memory grades.new ring.new values.new bytes.new) result }
 {
     let (old, rest) = values.split_at_mut(64);
     let (new, _) = rest.split_at_mut(64);
-    let (next, _) = bytes.split_at_mut(4096);
+    let Some(next) = bytes.as_chunks_mut().0.first_chunk_mut() else {
+        unreachable!()
+    };
     let mut walk = [0; 65];
     match settle(problem, old, new, next, &mut walk) {
-        None => {
+        Ok(()) => {
             copy_values(problem.graph.standing, old, grades);
-            None
+            Ok(())
         }
-        Some(span) => Some(write_ring(&walk, span, ring)),
+        Err(span) => Err(Forbidden {
+            ring: write_ring(&walk, span, ring),
+        }),
     }
 }
 
@@ -46,21 +66,24 @@ fn solve<V: Scale>(
 pub fn solve_graph<V: Scale>(
     graph: &Graph,
     thresholds: Thresholds,
-    grades: &mut [V],
-    ring: &mut [u8],
-    values: &mut [V],
-    bytes: &mut [u8],
-) -> Option<u8>
-    requires room { enough (length grades.old) (length ring.old) (length values.old) (length bytes.old) ≡ true }
+    memory: &mut Memory<'_, V>,
+) -> Result<(), Forbidden>
+    requires room { suffices (brought memory.old) ≡ true }
     requires limits { within_limits thresholds ≡ true }
-    ensures { (w : View) → Draws w graph.now → Attempt w (Best V.Scale w thresholds) V.Scale.nothing (Forbids V.Scale w thresholds)
-        (brought grades.old ring.old values.old bytes.old)
-        (brought grades.new ring.new values.new bytes.new) result }
+    ensures solved { (w : View) → Draws w graph.now → Attempt w (Best V.Scale w thresholds) V.Scale.nothing (Forbids V.Scale w thresholds)
+        (brought memory.old) (brought memory.new) result }
+    ensures same { SameLent memory.old memory.new }
 {
     let problem = Problem {
         graph: *graph,
         mark: V::mark(thresholds),
         hop: V::hop(thresholds),
     };
-    solve(&problem, grades, ring, values, bytes)
+    solve(
+        &problem,
+        memory.grades,
+        memory.ring,
+        memory.values,
+        memory.bytes,
+    )
 }

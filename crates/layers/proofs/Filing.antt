@@ -1,6 +1,7 @@
 -- The calls of a folder over a sheet, by those below. Assumes nothing.
 use Rattle.std.proofs.Common.{◌≡◌, ℕ, ◌+◌, ◌-◌, Bool, true, false, cond, ◌&&◌, eqb, ltb, Result, sym, refl, ap, ◌∙◌, subst, arith}
 use mathlib.Core.Path.{fun_ext}
+use Rattle.std.proofs.Math.Bool.{and-true}
 use Rattle.std.proofs.lemmas.Bool.{and_parts, eqb-true, ne_eqb}
 use Rattle.model.specs.declared.decline.Decline.{Decline}
 use Rattle.model.specs.Sets.{has, put}
@@ -10,14 +11,14 @@ use Rattle.sheet.specs.States.{is_aside, is_standing}
 use Rattle.sheet.specs.Meanings.{Meaning, Lawful}
 use Rattle.sheet.specs.Checks.{enter_check, pair_check, mark_check, strike_check}
 use Rattle.sheet.specs.Calls.{put_state, put_mark, entered, marked, struck, Called}
-use Rattle.sheet.proofs.Checking.{Clear, clash, called_by, pair_clear, pair_open}
+use Rattle.sheet.proofs.Checking.{Clear, called_by, pair_clear, pair_open}
 use Rattle.layers.specs.Folders.{Filed, filed_state, filed_states, filed_marks, seen, entered_in, marked_in, struck_in}
 
 stands_there : (own : Bool) (s : State) → filed_state own s ≡ Standing → s ≡ Standing
-stands_there own Absent e = clash cc
+stands_there own Absent e = cc
 stands_there true Standing e = refl
 stands_there false Standing e = refl
-stands_there own Aside e = clash cc
+stands_there own Aside e = cc
 
 -- a call that is told by what is filed is told by what is seen, if what is seen changes as asked
 pub seen_called : {n : ℕ} {before changed after : Filed} {wanted : Meaning} {r : Result (Unit {0}) Decline} → (n ≡ 0 → seen changed ≡ wanted)
@@ -46,13 +47,9 @@ put_seen f u v b p q = fun_ext (λ x. fun_ext (λ y. go x y (eqb x u && eqb y v)
         let h = and_parts (eqb x u) (eqb y v) e in
         simp (eqb-true x u h.0, eqb-true y v h.1, p, q)
 
-    and_true : (c : Bool) → (c && true) ≡ c
-    and_true true = refl
-    and_true false = refl
-
     go : (x y : ℕ) (t : Bool) → (eqb x u && eqb y v) ≡ t
         → (cond t b (f.below.marks x y) && (is_standing (filed_states f x) && is_standing (filed_states f y))) ≡ cond t b (filed_marks f x y)
-    go x y true e = ap (λ (c : Bool). b && c) (both x y e) ∙ and_true b
+    go x y true e = ap (λ (c : Bool). b && c) (both x y e) ∙ and-true b
     go x y false e = refl
 
 pub mark_seen : (f : Filed) (u v : ℕ) → mark_check (seen f) u v ≡ 0 → seen (marked_in f u v) ≡ marked (seen f) u v
@@ -107,7 +104,7 @@ marks_entered f u l out = fun_ext (λ x. fun_ext (λ y. go x y (f.below.marks x 
   where
     other : (x : ℕ) → f.below.states x ≡ Standing → filed_states (entered_in f u) x ≡ filed_states f x
     other x e =
-        let apart = ne_eqb x u (λ i. let h : f.below.states x ≡ Absent = ap f.below.states i ∙ out in clash cc) in
+        let apart = ne_eqb x u (λ i. let h : f.below.states x ≡ Absent = ap f.below.states i ∙ out in cc) in
         ap (λ (g : ℕ → State). g x) (states_entered f u) ∙ ap (λ (t : Bool). cond t Standing (filed_states f x)) apart
 
     go : (x y : ℕ) (t : Bool) → f.below.marks x y ≡ t

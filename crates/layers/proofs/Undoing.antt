@@ -1,8 +1,9 @@
 -- Setting aside and bringing back, one after the other. Assumes nothing.
 use Rattle.std.proofs.Common.{◌≡◌, ℕ, Bool, true, false, cond, eqb, ltb, sym, refl, ap, ◌∙◌, arith}
 use mathlib.Core.Path.{fun_ext}
-use Rattle.std.proofs.lemmas.Bool.{eqb-true, eq-eqb}
+use Rattle.std.proofs.lemmas.Bool.{eq-eqb}
 use Rattle.model.specs.Sets.{put}
+use Rattle.model.proofs.Digits.{put_same}
 use Rattle.sheet.specs.declared.state.State.{State}
 use Rattle.sheet.specs.declared.state.State.TheVariants.{Absent, Standing, Aside}
 use Rattle.sheet.specs.States.{is_absent, is_aside}
@@ -23,15 +24,6 @@ settable true Standing false e = absurd (omega arith)
 settable false Standing false e = record { low = refl; free = refl; stands = refl }
 settable own Aside false e = absurd (omega arith)
 
--- writing the answer that is there changes nothing
-pub put_same : (f : ℕ → Bool) (u : ℕ) (b : Bool) → f u ≡ b → put f u b ≡ f
-unfolding put
-put_same f u b e = fun_ext (λ x. go x (eqb x u) refl)
-  where
-    go : (x : ℕ) (t : Bool) → eqb x u ≡ t → cond t b (f x) ≡ f x
-    go x true i = sym e ∙ ap f (sym (eqb-true x u i))
-    go x false i = refl
-
 -- the second of two writes to one place is all that counts
 put_twice : (f : ℕ → Bool) (u : ℕ) (b c : Bool) → put (put f u c) u b ≡ put f u b
 unfolding put
@@ -50,5 +42,5 @@ aside_and_back a u e =
     let s = settable (a.own u) (a.below.states u) (ltb 63 u) e in
     record {
       taken = simp (s.low, put_here a.own u true, s.stands);
-      same = λ i. record { below = a.below; own = (put_twice a.own u false true ∙ put_same a.own u false s.free) i };
+      same = λ i. record { below = a.below; own = (put_twice a.own u false true ∙ sym (put_same a.own u false s.free)) i };
     }

@@ -7,13 +7,12 @@ use Rattle.sheet.specs.declared.state.State.{State}
 use Rattle.sheet.specs.declared.state.State.TheVariants.{Absent, Standing, Aside}
 use Rattle.sheet.specs.States.{is_standing}
 use Rattle.sheet.specs.Meanings.{Lawful, pairs}
-use Rattle.sheet.proofs.Checking.{clash}
 use Rattle.layers.specs.Folders.{Filed, filed_state, filed_states, filed_marks, seen}
 
 is_standing_true : (s : State) → is_standing s ≡ true → s ≡ Standing
-is_standing_true Absent e = clash cc
+is_standing_true Absent e = cc
 is_standing_true Standing e = refl
-is_standing_true Aside e = clash cc
+is_standing_true Aside e = cc
 
 -- fewer marks, fewer pairs
 bit_and : (x y : Bool) → bit (x && y) ≤ bit x

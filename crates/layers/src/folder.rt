@@ -3,9 +3,7 @@ ghost use Rattle.std.specs.Prelude.{◌≡◌};
 ghost use Rattle.model.specs.Refusals.{answer_number};
 ghost use Rattle.model.specs.Sets.{has};
 ghost use Rattle.sheet.specs.Checks.{pair_check};
-ghost use Rattle.sheet.specs.Calls.{Marks, Strikes};
 ghost use Rattle.sheet.specs.Meanings.{meaning};
-ghost use Rattle.sheet.specs.Views.{meaning_of};
 ghost use Rattle.layers.specs.Folders.{filed_states, filed_marks};
 ghost use Rattle.layers.specs.FolderLaws.{seen_lawful};
 ghost use Rattle.layers.specs.FiledIn.{filed_in, EntersIn, MarksIn, StrikesIn, SetsAside, BringsBack};
@@ -35,15 +33,8 @@ impl<S: Sheet> Folder<S> {
         ensures { result ≡ filed_states (filed_in S.Sheet self.now) u }
     {
         match self.below.state(u) {
-            State::Absent => State::Absent,
-            State::Aside => State::Aside,
-            State::Standing => {
-                if has_bit(self.aside, u as usize) {
-                    State::Aside
-                } else {
-                    State::Standing
-                }
-            }
+            State::Standing if has_bit(self.aside, u as usize) => State::Aside,
+            state => state,
         }
     }
 
@@ -52,21 +43,6 @@ impl<S: Sheet> Folder<S> {
         ensures { answer_number result ≡ pair_check u v (filed_states (filed_in S.Sheet self.now) u) (filed_states (filed_in S.Sheet self.now) v) 0 }
     {
         check_pair(u, v, self.state_here(u), self.state_here(v))
-    }
-
-    // The calls on the sheet below, which leave the folder's own set alone.
-    fn mark_below(&mut self, u: u8, v: u8) -> Result<(), Decline>
-        ensures below { Marks (meaning_of S.Sheet) u v self.old.below self.new.below result }
-        ensures own { self.new.aside ≡ self.old.aside }
-    {
-        self.below.mark(u, v)
-    }
-
-    fn strike_below(&mut self, u: u8, v: u8) -> Result<(), Decline>
-        ensures below { Strikes (meaning_of S.Sheet) u v self.old.below self.new.below result }
-        ensures own { self.new.aside ≡ self.old.aside }
-    {
-        self.below.strike(u, v)
     }
 
     // Enter, mark and strike, by what they make of the sheet below and of the folder's own set.
@@ -90,14 +66,14 @@ impl<S: Sheet> Folder<S> {
         ensures { MarksIn S.Sheet u v self.old self.new result }
     {
         self.check_here(u, v)?;
-        self.mark_below(u, v)
+        self.below.mark(u, v)
     }
 
     pub fn strike_here(&mut self, u: u8, v: u8) -> Result<(), Decline>
         ensures { StrikesIn S.Sheet u v self.old self.new result }
     {
         self.check_here(u, v)?;
-        self.strike_below(u, v)
+        self.below.strike(u, v)
     }
 
     pub fn set_aside(&mut self, u: u8) -> Result<(), Decline>

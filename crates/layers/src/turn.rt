@@ -1,7 +1,5 @@
 // The turn: the sheet below read the other way round, for a judge who marks the weaker.
 ghost use Rattle.std.specs.Prelude.{◌≡◌};
-ghost use Rattle.sheet.specs.Calls.{Marks, Strikes};
-ghost use Rattle.sheet.specs.Views.{meaning_of};
 ghost use Rattle.layers.specs.Turns.{turned};
 ghost use Rattle.layers.specs.Turning.{turned_lawful};
 
@@ -19,19 +17,6 @@ impl<S: Sheet> Turn<S> {
         ensures { result.below ≡ below }
     {
         Turn { below }
-    }
-
-    // The calls on the sheet below, with the records exchanged.
-    fn mark_below(&mut self, u: u8, v: u8) -> Result<(), Decline>
-        ensures { Marks (meaning_of S.Sheet) v u self.old.below self.new.below result }
-    {
-        self.below.mark(v, u)
-    }
-
-    fn strike_below(&mut self, u: u8, v: u8) -> Result<(), Decline>
-        ensures { Strikes (meaning_of S.Sheet) v u self.old.below self.new.below result }
-    {
-        self.below.strike(v, u)
     }
 }
 
@@ -67,10 +52,10 @@ impl<S: Sheet> Sheet for Turn<S> {
     }
 
     fn mark(&mut self, u: u8, v: u8) -> Result<(), Decline> {
-        self.mark_below(u, v)
+        self.below.mark(v, u)
     }
 
     fn strike(&mut self, u: u8, v: u8) -> Result<(), Decline> {
-        self.strike_below(u, v)
+        self.below.strike(v, u)
     }
 }

@@ -1,6 +1,6 @@
--- What the list of a list sheet means: its marks are its first n places. Assumes nothing.
-use Rattle.std.specs.Prelude.{◌≡◌, ℕ, ◌<◌, ◌≤◌, Bool, true, false, ◌&&◌, List, Some, None, Option, ◌==◌, nat_lt, slice_index_or}
-use Rattle.model.specs.Rings.{bit, sum_to}
+-- What the list of a list sheet means. Assumes nothing.
+use Rattle.std.specs.Prelude.{ℕ, ◌≤◌, Bool, false, ◌&&◌, ◌||◌, List, length, ◌==◌, count_by, slice_index_or}
+use Rattle.std.specs.List.{fold}
 use Rattle.sheet.specs.Meanings.{Meaning}
 use Rattle.sheet.specs.Kept.{kept_meaning}
 use Rattle.listsheet.specs.declared.marks.Mark.{Mark}
@@ -11,27 +11,23 @@ pair_of u v = record { from = u; to = v }
 
 -- the mark in place i
 abbrev pub place : List Mark → ℕ → Mark
-place places i = slice_index_or places i (pair_of 0 0)
+place items i = slice_index_or items i (pair_of 0 0)
 
 abbrev pub is_pair : Mark → ℕ → ℕ → Bool
 is_pair k u v = u == k.from && v == k.to
 
--- how often the pair is among the first n places
-unfoldable pub times : List Mark → ℕ → ℕ → ℕ → ℕ
-times places n u v = sum_to (λ i. bit (is_pair (place places i) u v)) n
+-- whether the pair is in the list: whether some mark in it is that pair
+abbrev pub list_marks : List Mark → ℕ → ℕ → Bool
+list_marks items u v = fold (λ (found : Bool) (k : Mark). found || is_pair k u v) false items
 
-abbrev pub list_marks : List Mark → ℕ → ℕ → ℕ → Bool
-list_marks places n u v = nat_lt 0 (times places n u v)
+-- how often the pair is in the list
+abbrev pub times : List Mark → ℕ → ℕ → ℕ
+times items u v = count_by (λ k. is_pair k u v) items
 
 -- no pair twice
-abbrev pub Once : List Mark → ℕ → Type 0
-Once places n = (u v : ℕ) → times places n u v ≤ 1
+abbrev pub Once : List Mark → Type 0
+Once items = (u v : ℕ) → times items u v ≤ 1
 
 -- the meaning of a list sheet: it holds the marks in its list, and has 512 places
-abbrev pub list_meaning : ℕ → List Mark → ℕ → Meaning
-list_meaning present places n = kept_meaning present (list_marks places n) n 512
-
--- a place where the pair is, or none if it is in no place
-abbrev pub Found : List Mark → ℕ → ℕ → ℕ → Option ℕ → Type 0
-Found places n u v (Some k) = (k < n) × (is_pair (place places k) u v ≡ true) × (list_marks places n u v ≡ true)
-Found places n u v None = list_marks places n u v ≡ false
+abbrev pub list_meaning : ℕ → List Mark → Meaning
+list_meaning present items = kept_meaning present (list_marks items) (length items) 512

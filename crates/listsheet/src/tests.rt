@@ -3,14 +3,6 @@ use crate::ListSheet;
 use model::decline::Decline;
 use sheet::meaning::Sheet;
 
-// The number by which a call is declined, or 0.
-fn number_of(r: Result<(), Decline>) -> u8 {
-    match r {
-        Ok(()) => 0,
-        Err(d) => d.number(),
-    }
-}
-
 // Marks from u to the records below 24, as long as there is room.
 fn mark_from(sheet: &mut ListSheet, u: u8) {
     for v in 0..24u8 {
@@ -34,12 +26,12 @@ fn full() -> ListSheet {
 fn a_full_list_takes_a_struck_place_again(rt: HostRuntime) {
     let mut sheet = full();
     assert_eq!(rt; sheet.held(), 512);
-    assert_eq!(rt; number_of(sheet.mark(23, 22)), 8);
-    assert_eq!(rt; number_of(sheet.mark(0, 1)), 7);
-    assert_eq!(rt; number_of(sheet.strike(0, 1)), 0);
+    assert_eq!(rt; sheet.mark(23, 22), Err(Decline::SheetFull));
+    assert_eq!(rt; sheet.mark(0, 1), Err(Decline::AlreadyMarked));
+    assert_eq!(rt; sheet.strike(0, 1), Ok(()));
     assert_eq!(rt; sheet.held(), 511);
-    assert_eq!(rt; number_of(sheet.mark(23, 22)), 0);
-    assert_eq!(rt; number_of(sheet.mark(0, 1)), 8);
+    assert_eq!(rt; sheet.mark(23, 22), Ok(()));
+    assert_eq!(rt; sheet.mark(0, 1), Err(Decline::SheetFull));
     assert!(rt; sheet.marked(23, 22));
     assert!(rt; !sheet.marked(0, 1));
 }

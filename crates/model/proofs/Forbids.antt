@@ -1,8 +1,8 @@
 -- What a ring forbids. Assumes nothing.
-use Rattle.std.proofs.Common.{◌≡◌, ℕ, zero, suc, ◌+◌, ◌*◌, ◌≤◌, true, false, ◌||◌, List, length, ℤ, pos, ◌+ℤ◌, ◌≤ℤ◌, refl, ap, add-mul, mul-le-mul_left, zero-mul, mul-add, mul_left_comm, arith}
+use Rattle.std.proofs.Common.{◌≡◌, ℕ, zero, suc, ◌+◌, ◌*◌, ◌≤◌, true, false, ◌||◌, Option, Some, None, List, length, ℤ, pos, ◌+ℤ◌, ◌≤ℤ◌, refl, ap, add-mul, mul-le-mul_left, zero-mul, mul-add, mul_left_comm, arith}
 use borrow.Author.Differences.{ints}
 use Rattle.model.specs.declared.step.Step.{Step}
-use Rattle.model.specs.declared.step.Step.TheVariants.{Mark, Hop, NoStep}
+use Rattle.model.specs.declared.step.Step.TheVariants.{Mark, Hop}
 use Rattle.model.specs.Views.{View, step, marks, hops}
 use Rattle.model.specs.Rings.{sum_to, bit, marks_in, hops_in, round, marks_of, hops_of, Cycle}
 use Rattle.model.specs.Gradings.{Graded}
@@ -11,13 +11,13 @@ use Rattle.model.proofs.Steps.{clash}
 use Rattle.model.proofs.Rounds.{round_below, round_steps, round_end}
 
 -- one more step, by a mark or by a hop: what the sums so far bound, they bound again
-one_more : (s : Step) (a b c : ℤ) (E H X Y : ℕ) → (marks s || hops s) ≡ true
+one_more : (s : Option Step) (a b c : ℤ) (E H X Y : ℕ) → (marks s || hops s) ≡ true
     → (marks s ≡ true → (b +ℤ pos X) ≤ℤ c) → (hops s ≡ true → b ≤ℤ (c +ℤ pos Y))
     → (a +ℤ pos (E * X)) ≤ℤ (b +ℤ pos (H * Y))
     → (a +ℤ pos ((E + bit (marks s)) * X)) ≤ℤ (c +ℤ pos ((H + bit (hops s)) * Y))
-one_more Mark a b c E H X Y e up near ih = rw (add-mul E 1 X, add-mul H 0 Y) (let u = up refl in omega (arith, ints))
-one_more Hop a b c E H X Y e up near ih = rw (add-mul E 0 X, add-mul H 1 Y) (let u = near refl in omega (arith, ints))
-one_more NoStep a b c E H X Y e up near ih = absurd (clash false e refl)
+one_more (Some Mark) a b c E H X Y e up near ih = rw (add-mul E 1 X, add-mul H 0 Y) (let u = up refl in omega (arith, ints))
+one_more (Some Hop) a b c E H X Y e up near ih = rw (add-mul E 0 X, add-mul H 1 Y) (let u = near refl in omega (arith, ints))
+one_more None a b c E H X Y e up near ih = absurd (clash false e refl)
 
 module _ (more : ℕ) (w : View) (xs : List ℕ) (t1 t2 d : ℕ) (g : ℕ → ℤ) (c : Cycle w xs) (graded : Graded more w t1 t2 d g) where
   bounded : (n : ℕ) → (g (round xs 0) +ℤ pos (marks_in w (round xs) n * (d * t1 + more))) ≤ℤ (g (round xs n) +ℤ pos (hops_in w (round xs) n * (d * t2)))

@@ -1,19 +1,19 @@
 -- What a step tells of its two records. Assumes nothing.
-use Rattle.std.proofs.Common.{◌≡◌, ℕ, ◌+◌, Bool, true, false, cond, not, ◌&&◌, ◌||◌, T, eqb, sym, refl, ap, ◌∙◌, subst}
-use Rattle.std.proofs.lemmas.Bool.{eq-eqb, ne_eqb, and_parts}
+use Rattle.std.proofs.Common.{◌≡◌, ℕ, ◌+◌, Bool, true, false, cond, not, ◌&&◌, ◌||◌, Option, Some, None, eqb, sym, refl, ap}
+use Rattle.std.proofs.lemmas.Bool.{both_ways, eq-eqb, ne_eqb, and_parts}
 use Rattle.model.specs.declared.step.Step.{Step}
-use Rattle.model.specs.declared.step.Step.TheVariants.{Mark, Hop, NoStep}
+use Rattle.model.specs.declared.step.Step.TheVariants.{Mark, Hop}
 use Rattle.model.specs.Views.{View, two, step, marks, hops, is_hop, is_step, Within}
 use Rattle.model.specs.Rings.{bit}
 
 pub clash : (b : Bool) → b ≡ true → b ≡ false → ⊥
-clash b p q = subst T (sym p ∙ q) tt
+clash b p q = both_ways b q p
 
 -- a mark is no hop
-pub counted : (s : Step) → (marks s || hops s) ≡ true → bit (marks s) + bit (hops s) ≡ 1
-counted Mark e = refl
-counted Hop e = refl
-counted NoStep e = absurd (clash false e refl)
+pub counted : (s : Option Step) → (marks s || hops s) ≡ true → bit (marks s) + bit (hops s) ≡ 1
+counted (Some Mark) e = refl
+counted (Some Hop) e = refl
+counted None e = absurd (clash false e refl)
 
 pub two_from : (w : View) (u v : ℕ) → w.stands u ≡ true → w.stands v ≡ true → (u ≡ v → ⊥) → two w u v ≡ true
 unfolding two
@@ -31,7 +31,7 @@ pub hop_turned : (w : View) (u v : ℕ) → is_hop w u v ≡ true → is_hop w v
 unfolding step
 hop_turned w u v = go (two w u v) refl (w.marked u v) refl (w.marked v u) refl
   where
-    go : (t : Bool) → two w u v ≡ t → (a : Bool) → w.marked u v ≡ a → (b : Bool) → w.marked v u ≡ b → hops (cond t (cond a Mark (cond b NoStep Hop)) NoStep) ≡ true → hops (cond (two w v u) (cond (w.marked v u) Mark (cond (w.marked u v) NoStep Hop)) NoStep) ≡ true
+    go : (t : Bool) → two w u v ≡ t → (a : Bool) → w.marked u v ≡ a → (b : Bool) → w.marked v u ≡ b → hops (cond t (cond a (Some Mark) (cond b None (Some Hop))) None) ≡ true → hops (cond (two w v u) (cond (w.marked v u) (Some Mark) (cond (w.marked u v) None (Some Hop))) None) ≡ true
     go true e false p false q h = rw (two_turned w u v e, p, q)
     go true e false p true q h = absurd (clash false h refl)
     go true e true p b q h = absurd (clash false h refl)
@@ -50,7 +50,7 @@ pub step_two : (w : View) (u v : ℕ) → is_step w u v ≡ true → two w u v �
 unfolding step
 step_two w u v = go (two w u v)
   where
-    go : (t : Bool) → (marks (cond t (cond (w.marked u v) Mark (cond (w.marked v u) NoStep Hop)) NoStep) || hops (cond t (cond (w.marked u v) Mark (cond (w.marked v u) NoStep Hop)) NoStep)) ≡ true → t ≡ true
+    go : (t : Bool) → (marks (cond t (cond (w.marked u v) (Some Mark) (cond (w.marked v u) None (Some Hop))) None) || hops (cond t (cond (w.marked u v) (Some Mark) (cond (w.marked v u) None (Some Hop))) None)) ≡ true → t ≡ true
     go true e = refl
     go false e = e
 
@@ -66,15 +66,15 @@ unfolding two
 step_stands w u v s = (and_parts (w.stands u) (w.stands v && not (eqb u v)) (step_two w u v s)).0
 
 -- a step that is no mark is a hop
-pub other : (s : Step) → (marks s || hops s) ≡ true → hops s ≡ not (marks s)
-other Mark e = refl
-other Hop e = refl
-other NoStep e = absurd (clash false e refl)
+pub other : (s : Option Step) → (marks s || hops s) ≡ true → hops s ≡ not (marks s)
+other (Some Mark) e = refl
+other (Some Hop) e = refl
+other None e = absurd (clash false e refl)
 
-pub hop_unmarked : (s : Step) → hops s ≡ true → marks s ≡ false
-hop_unmarked Mark e = absurd (clash false e refl)
-hop_unmarked Hop e = refl
-hop_unmarked NoStep e = refl
+pub hop_unmarked : (s : Option Step) → hops s ≡ true → marks s ≡ false
+hop_unmarked (Some Mark) e = absurd (clash false e refl)
+hop_unmarked (Some Hop) e = refl
+hop_unmarked None e = refl
 
 pub step_head : (w : View) (u v : ℕ) → is_step w u v ≡ true → w.stands v ≡ true
 unfolding two

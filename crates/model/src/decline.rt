@@ -2,7 +2,7 @@
 ghost use Rattle.std.specs.Prelude.{◌≡◌};
 ghost use Rattle.model.specs.Refusals.{number_of};
 
-#[derive(Clone, Copy)]
+#[derive(Clone, Copy, Debug, PartialEq, Eq)]
 pub enum Decline {
     TooLittleMemory,
     NumberTooHigh,
@@ -24,7 +24,7 @@ pub enum Decline {
 }
 
 impl Decline {
-    // The number that stands for this refusal in every answer.
+    // The number that stands for this refusal in every answer: the answers' format sets these, and no other place has them.
     pub fn number(self) -> u8
         ensures { result ≡ number_of self }
     {

@@ -1,11 +1,9 @@
-// How one record leads to another.
+// How one record leads to another, where it does.
 
-#[derive(Clone, Copy)]
+#[derive(Clone, Copy, Debug, PartialEq, Eq)]
 pub enum Step {
     // the second was judged stronger
     Mark,
     // compared and found alike: no mark either way
     Hop,
-    // against a mark, from a record to itself, or a record that does not stand
-    NoStep,
 }

@@ -2,7 +2,7 @@
 ghost use Rattle.std.specs.Prelude.{◌≡◌};
 ghost use Rattle.model.specs.Limits.{within_limits};
 
-#[derive(Clone, Copy)]
+#[derive(Clone, Copy, Debug, PartialEq, Eq)]
 pub struct Thresholds {
     pub t1: u32,
     pub t2: u32,
@@ -13,6 +13,6 @@ impl Thresholds {
     pub fn are_allowed(self) -> bool
         ensures { result ≡ within_limits self }
     {
-        self.t1 >= 1 && self.t1 <= 1_000_000 && self.t2 <= 1_000_000
+        (1..=1_000_000).contains(&self.t1) && self.t2 <= 1_000_000
     }
 }

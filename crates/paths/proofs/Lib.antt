@@ -6,3 +6,6 @@ pub mod Loops
 pub mod Sums
 pub mod Unrolled
 pub mod Written
+pub mod Numbered
+pub mod Scales
+pub mod Paired

@@ -1,5 +1,5 @@
 -- The walk down the layers, step by step, and the ring that it must run into. Assumes nothing.
-use Rattle.std.proofs.Common.{◌≡◌, ℕ, suc, ◌+◌, ◌-◌, ◌*◌, ◌<◌, ◌≤◌, true, List, length, get_or, set, sym, refl, ap, ◌∙◌, subst, subst₂, ⊎_elim, add-one, arith, get_or-set_other, get_or-set_same}
+use Rattle.std.proofs.Common.{◌≡◌, ℕ, suc, ◌+◌, ◌-◌, ◌<◌, ◌≤◌, true, List, [], length, get_or, set, sym, refl, ap, ◌∙◌, subst, subst₂, ⊎_elim, add-one, arith, get_or-set_other, get_or-set_same}
 use Rattle.std.proofs.lemmas.Bool.{cases_eq}
 use Rattle.scale.specs.declared.scale.Scale.{Ghosts}
 use Rattle.scale.specs.Scales.{Lawful}
@@ -10,17 +10,6 @@ use Rattle.paths.specs.Descents.{Falls, Down, Walked, Repeat, Loop}
 use Rattle.paths.proofs.Layers.{fell, fell_again, ring_below, down}
 
 module _ {V : Type 0} (s : Ghosts V) (laws : Lawful s) (steps : Steps V) where
-  -- the walk from `start`, at which the layer n + 1 is below the layer n
-  pub walk_start : (ys : List ℕ) (n start : ℕ) → length ys ≡ 65 → n < 64 → start < 64 → Falls s steps n start → Walked s steps (set ys (n + 1) start) (n + 1) (n + 1)
-  walk_start ys n start len room low falls =
-      let here : get_or (set ys (n + 1) start) (n + 1) 0 ≡ start = get_or-set_same ys (n + 1) start 0 (omega arith) in
-      record {
-        under = omega arith;
-        nodes = λ j l u. let e : j ≡ n + 1 = omega arith in subst (λ (i : ℕ). get_or (set ys (n + 1) start) i 0 < 64) (sym e) (rw here low);
-        falls = λ k e. let k_is : k ≡ n = omega arith in subst (λ (i : ℕ). Falls s steps i (get_or (set ys (n + 1) start) (n + 1) 0)) (sym k_is) (subst (Falls s steps n) (sym here) falls);
-        down = λ j l u. absurd (omega arith);
-      }
-
   -- one step further down: to the node that the layer was reached by, where the layer below fell too
   walk_down : (ys : List ℕ) (top k v : ℕ) → length ys ≡ 65 → top ≤ 64 → Walked s steps ys top (suc k) → v ≡ chosen s steps (level s steps 64 k) (get_or ys (suc k) 0) 64 → Walked s steps (set ys k v) top k
   walk_down ys top k v len room w v_is =
@@ -48,14 +37,14 @@ module _ {V : Type 0} (s : Ghosts V) (laws : Lawful s) (steps : Steps V) where
           let Q : ℕ → Type 0 = λ n. level s steps 64 (suc n) (get_or ys (suc k) 0) ≡ s.plus (steps.cost (get_or ys (suc k) 0) v) (level s steps 64 n v) in
           fell_again s laws steps 64 i (get_or ys (suc k) 0) v (subst P e (w.falls k refl)) l is (subst Q e reached)
 
-  -- one turn of the loop, in which k is t - 1 and the nodes of layer k stand from the place 64 k on
-  pub walk_more : (ys ns : List ℕ) (top t k : ℕ) → t ≡ suc k → length ys ≡ 65 → top ≤ 64 → Walked s steps ys top t
-      → ((j : ℕ) → j < top → (u : ℕ) → u < 64 → get_or ns (j * 64 + u) 0 ≡ chosen s steps (level s steps 64 j) u 64)
-      → Walked s steps (set ys k (get_or ns (k * 64 + get_or ys (k + 1) 0) 0)) top k
+  -- one turn of the loop, in which k is t - 1 and row k of ns has the nodes of layer k
+  pub walk_more : (ys : List ℕ) (ns : List (List ℕ)) (top t k : ℕ) → t ≡ suc k → length ys ≡ 65 → top ≤ 64 → Walked s steps ys top t
+      → ((j : ℕ) → j < top → (u : ℕ) → u < 64 → get_or (get_or ns j []) u 0 ≡ chosen s steps (level s steps 64 j) u 64)
+      → Walked s steps (set ys k (get_or (get_or ns k []) (get_or ys (k + 1) 0) 0)) top k
   walk_more ys ns top t k e len room w next =
       let w' : Walked s steps ys top (suc k) = subst (Walked s steps ys top) e w in
       let tops : suc k ≤ top = w'.under in
-      rw (add-one k) (walk_down ys top k (get_or ns (k * 64 + get_or ys (suc k) 0) 0) len room w' (next k (omega arith) (get_or ys (suc k) 0) (w'.nodes (suc k) (omega arith) (omega arith))))
+      rw (add-one k) (walk_down ys top k (get_or (get_or ns k []) (get_or ys (suc k) 0) 0) len room w' (next k (omega arith) (get_or ys (suc k) 0) (w'.nodes (suc k) (omega arith) (omega arith))))
 
   pub loop_made : (ys : List ℕ) (top low high : ℕ) → Walked s steps ys top 0 → Repeat ys low high → high ≤ top → Loop s steps ys low high
   loop_made ys top low high w f room =

@@ -4,3 +4,4 @@ pub mod Walks
 pub mod Bests
 pub mod Descents
 pub mod Statements
+pub mod Numbers

@@ -1,11 +1,11 @@
 -- Four sections, each after its count, are the layout of their contents. Assumes nothing.
-use Rattle.std.proofs.Common.{◌≡◌, ℕ, zero, suc, ◌+◌, ◌≤◌, Bool, true, false, List, [], ◌∷◌, ◌++◌, length, take, ℤ, nat_abs, sym, refl, ap, ◌∙◌, ap₂, arith, length-append}
+use Rattle.std.proofs.Common.{◌≡◌, ℕ, zero, suc, ◌+◌, Bool, true, false, List, [], ◌∷◌, ◌++◌, length, ℤ, nat_abs, sym, refl, ap, ◌∙◌, ap₂, length-append}
 use Rattle.std.specs.List.{flat_map}
 use Rattle.std.proofs.lemmas.List.{append-nil}
 use Rattle.model.specs.Views.{View}
 use Rattle.form.specs.Contents.{Contents}
 use Rattle.form.specs.Laid.{alone, of_pair, of_two, laid_out}
-use Rattle.release.specs.declared.draft.Draft.{Draft}
+use Rattle.arrayvec.specs.ArrayVec.{ArrayVec}
 use Rattle.release.specs.Drafts.{Adds, DraftOf}
 use Rattle.release.specs.Sections.{one_if, records_below, depths_below}
 use Rattle.release.proofs.Adding.{adds_then, adds_as}
@@ -29,20 +29,16 @@ depths_long w g (suc n) =
     same false = refl
 
 -- the parts of a draft that was empty at first, one after another
-pub laid : {d0 d1 d2 d3 d4 d5 d6 d7 d8 : Draft} {n m k l : ℕ} (c : Contents) → d0.len ≡ 0
+pub laid : {d0 d1 d2 d3 d4 d5 d6 d7 d8 : ArrayVec ℕ} {n m k l : ℕ} (c : Contents) → d0.items ≡ []
     → n ≡ length c.records → m ≡ length c.marks → k ≡ length c.depths → l ≡ length c.ring
     → Adds d0 (n ∷ []) d1 → Adds d1 c.records d2 → Adds d2 (of_two m) d3 → Adds d3 (flat_map of_pair c.marks) d4
     → Adds d4 (k ∷ []) d5 → Adds d5 (flat_map of_two c.depths) d6 → Adds d6 (l ∷ []) d7 → Adds d7 c.ring d8
-    → d8.len ≤ 8453 → DraftOf c d8
-laid {d0 = d0} {d8 = d8} c none en em ek el a b e f g h i j room =
+    → DraftOf c d8
+laid {d0 = d0} {d8 = d8} c none en em ek el a b e f g h i j =
     let ring = adds_as (flat_map alone c.ring ++ []) (sym (append-nil (flat_map alone c.ring) ∙ alone_same c.ring)) j in
     let all = adds_then a (adds_then (adds_as (flat_map alone c.records) (sym (alone_same c.records)) b) (adds_then e (adds_then f (adds_then g (adds_then h (adds_then i ring)))))) in
     let whole : Adds d0 (laid_out c) d8 = adds_as (laid_out c) (counted en em ek el) all in
-    record {
-      room = room;
-      bytes = whole.bytes ∙ ap (λ (x : ℕ). take x d0.bytes ++ laid_out c) none;
-      long = whole.long ∙ omega (arith, none);
-    }
+    record { bytes = whole.bytes ∙ ap (λ (xs : List ℕ). xs ++ laid_out c) none }
   where
     counted : {n m k l : ℕ} → n ≡ length c.records → m ≡ length c.marks → k ≡ length c.depths → l ≡ length c.ring
         → (n ∷ []) ++ (flat_map alone c.records ++ (of_two m ++ (flat_map of_pair c.marks ++ ((k ∷ []) ++ (flat_map of_two c.depths ++ ((l ∷ []) ++ (flat_map alone c.ring ++ []))))))) ≡ laid_out c

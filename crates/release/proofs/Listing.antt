@@ -1,15 +1,11 @@
 -- One number more of a section. Assumes nothing.
-use Rattle.std.proofs.Common.{◌≡◌, ℕ, ◌+◌, ◌≤◌, Bool, true, false, List, ◌++◌, length, ℤ, nat_abs, refl, ap, ◌∙◌, add-one, arith, length-append}
+use Rattle.std.proofs.Common.{◌≡◌, ℕ, ◌+◌, Bool, true, false, List, ◌++◌, length, ℤ, nat_abs, refl, ap, ◌∙◌, add-one, length-append}
 use Rattle.std.specs.List.{flat_map}
 use Rattle.model.specs.Rings.{bit}
 use Rattle.model.specs.Views.{View}
 use Rattle.form.specs.Laid.{of_pair, of_two}
 use Rattle.release.specs.Sections.{one_if, records_below, marks_from, marks_below, depths_below}
 use Rattle.release.proofs.Adding.{joined_append}
-
-pub bit_short : (b : Bool) → bit b ≤ 1
-bit_short true = omega arith
-bit_short false = omega arith
 
 pub records_more : (w : View) (n : ℕ) → records_below w (n + 1) ≡ records_below w n ++ one_if (w.stands n) n
 unfolding records_below

@@ -1,41 +1,47 @@
 // The sections of a release, from the sheet's answers.
-ghost use Rattle.std.specs.Prelude.{◌≡◌, ◌+◌, ◌≤◌, true, length, unsigned_abs};
+ghost use Rattle.std.specs.Prelude.{◌+◌, ◌≤◌, length, unsigned_abs};
 ghost use Rattle.std.specs.List.{flat_map};
+ghost use Rattle.arrayvec.specs.ArrayVec.{array_vec_len};
+ghost use Rattle.form.specs.Laid.{of_pair, of_two};
 ghost use Rattle.sheet.specs.Views.{view_of};
 ghost use Rattle.release.specs.Drafts.{Adds, DraftOf};
-ghost use Rattle.form.specs.Laid.{of_pair, of_two};
-ghost use Rattle.release.specs.Sections.{one_if, records_below, marks_from, marks_below, depths_below, finding, grade_at, Short};
+ghost use Rattle.release.specs.Sections.{records_below, marks_from, marks_below, depths_below, finding, grade_at, Short};
 
 use crate::count::{count_marks, count_records};
-use crate::draft::Draft;
+use crate::draft::{Draft, put_two};
 use scale::whole::Whole;
 use sheet::meaning::Sheet;
 
 fn put_records<S: Sheet>(draft: &mut Draft, sheet: &S)
-    requires { draft.old.len + 64 ≤ 8453 }
+    requires { array_vec_len draft.old + 64 ≤ 8453 }
     ensures adds { Adds draft.old (records_below (view_of S.Sheet sheet.now) 64) draft.new }
-    ensures within { draft.new.len ≤ draft.old.len + 64 }
+    ensures within { array_vec_len draft.new ≤ array_vec_len draft.old + 64 }
 {
     for u in 0..64u8 {
-        draft.byte_if(sheet.state(u).stands(), u);
+        if sheet.state(u).stands() {
+            draft.push(u);
+        }
     }
 }
 
 // The marks from u.
 fn put_marks_from<S: Sheet>(draft: &mut Draft, sheet: &S, u: u8)
-    requires { draft.old.len + 128 ≤ 8453 }
+    requires { array_vec_len draft.old + 128 ≤ 8453 }
     ensures adds { Adds draft.old (flat_map of_pair (marks_from (view_of S.Sheet sheet.now) u 64)) draft.new }
-    ensures within { draft.new.len ≤ draft.old.len + 128 }
+    ensures within { array_vec_len draft.new ≤ array_vec_len draft.old + 128 }
 {
     for v in 0..64u8 {
-        draft.pair_if(sheet.marked(u, v), u, v);
+        if sheet.marked(u, v) {
+            draft.push(u);
+            draft.push(v);
+        }
     }
 }
 
 fn put_marks<S: Sheet>(draft: &mut Draft, sheet: &S)
-    requires { draft.old.len + 8192 ≤ 8453 }
+    requires { array_vec_len draft.old + 8192 ≤ 8453 }
     ensures adds { Adds draft.old (flat_map of_pair (marks_below (view_of S.Sheet sheet.now) 64)) draft.new }
-    ensures within { draft.new.len ≤ draft.old.len + 8192 }
+    ensures within { array_vec_len draft.new ≤ array_vec_len draft.old + 8192 }
 {
     for u in 0..64u8 {
         put_marks_from(draft, sheet, u);
@@ -43,37 +49,35 @@ fn put_marks<S: Sheet>(draft: &mut Draft, sheet: &S)
 }
 
 // How far below 0 a grade is: a grade of a least ratio has a size of at most 4,096.
-fn put_depth(draft: &mut Draft, is: bool, grade: Whole)
-    requires room { draft.old.len + 2 ≤ 8453 }
-    requires short { is ≡ true → unsigned_abs grade.value ≤ 4096 }
-    ensures adds { Adds draft.old (flat_map of_two (one_if is (unsigned_abs grade.value))) draft.new }
-    ensures within { draft.new.len ≤ draft.old.len + 2 }
+fn put_depth(draft: &mut Draft, grade: Whole)
+    requires room { array_vec_len draft.old + 2 ≤ 8453 }
+    requires short { unsigned_abs grade.value ≤ 4096 }
+    ensures { Adds draft.old (of_two (unsigned_abs grade.value)) draft.new }
 {
-    if is {
-        draft.two(grade.value.unsigned_abs() as u16);
-    }
+    put_two(draft, grade.value.unsigned_abs() as u16);
 }
 
-// Minus the grades of the standing records.
+// Minus the grades of the standing records. That these are short is asked in clauses: it is known of what the least ratio gives, and a
+// type for that would be for this call alone.
 fn put_depths<S: Sheet>(draft: &mut Draft, sheet: &S, grades: &[Whole])
-    requires room { draft.old.len + 128 ≤ 8453 }
+    requires room { array_vec_len draft.old + 128 ≤ 8453 }
     requires grades { 64 ≤ length grades.now }
     requires short { Short (view_of S.Sheet sheet.now) grades.now }
     ensures adds { Adds draft.old (flat_map of_two (depths_below (view_of S.Sheet sheet.now) (grade_at grades.now) 64)) draft.new }
-    ensures within { draft.new.len ≤ draft.old.len + 128 }
+    ensures within { array_vec_len draft.new ≤ array_vec_len draft.old + 128 }
 {
-    for u in 0..64u8 {
-        put_depth(draft, sheet.state(u).stands(), grades[u as usize]);
+    for (u, grade) in grades[..64].iter().enumerate() {
+        if sheet.state(u as u8).stands() {
+            put_depth(draft, *grade);
+        }
     }
 }
 
 fn put_ring(draft: &mut Draft, ring: &[u8])
-    requires { draft.old.len + length ring.now ≤ 8453 }
+    requires { array_vec_len draft.old + length ring.now ≤ 8453 }
     ensures { Adds draft.old ring.now draft.new }
 {
-    for b in ring {
-        draft.byte(*b);
-    }
+    draft.try_extend_from_slice(ring).unwrap();
 }
 
 // The whole release: four sections, each after its count.
@@ -85,13 +89,13 @@ pub(crate) fn lay_out<S: Sheet>(sheet: &S, grades: &[Whole], ring: &[u8]) -> Dra
 {
     let records = count_records(sheet);
     let mut draft = Draft::new();
-    draft.byte(records);
+    draft.push(records);
     put_records(&mut draft, sheet);
-    draft.two(count_marks(sheet));
+    put_two(&mut draft, count_marks(sheet));
     put_marks(&mut draft, sheet);
-    draft.byte(records);
+    draft.push(records);
     put_depths(&mut draft, sheet, grades);
-    draft.byte(ring.len() as u8);
+    draft.push(ring.len() as u8);
     put_ring(&mut draft, ring);
     draft
 }

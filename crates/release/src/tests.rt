@@ -1,5 +1,6 @@
 // A release as bytes, its refusals, and what they keep: the bytes of small folders, written out by hand.
 use crate::write::write_release;
+use grading::memory::Memory;
 use model::decline::Decline;
 use scale::whole::Whole;
 use sheet::bitsheet::BitSheet;
@@ -12,7 +13,18 @@ fn write_to(sheet: &BitSheet, out: &mut [u8]) -> Result<usize, Decline> {
     let mut ring = [9; 64];
     let mut values = [none; 4160];
     let mut bytes = [9; 4160];
-    write_release(sheet, &mut grades, &mut ring, &mut values, &mut bytes, out)
+    let mut memory = Memory {
+        grades: &mut grades,
+        ring: &mut ring,
+        values: &mut values,
+        bytes: &mut bytes,
+    };
+    write_release(sheet, &mut memory, out)
+}
+
+// The number by which the writing is declined.
+fn declined_by(written: Result<usize, Decline>) -> Option<u8> {
+    written.err().map(|d| d.number())
 }
 
 // Records 0, 1 and 2, and the mark from 0 to 2.
@@ -42,10 +54,7 @@ fn three_records_have_their_bytes(rt: HostRuntime) {
 #[test]
 fn a_short_output_is_kept(rt: HostRuntime) {
     let mut out = [9; 18];
-    match write_to(&three_records(), &mut out) {
-        Ok(_) => assert!(rt; false),
-        Err(d) => assert_eq!(rt; d.number(), 1),
-    }
+    assert_eq!(rt; declined_by(write_to(&three_records(), &mut out)), Some(1));
     assert!(rt; out == [9; 18]);
 }
 
@@ -54,9 +63,6 @@ fn a_circle_is_declined(rt: HostRuntime) {
     let mut sheet = three_records();
     let _ = sheet.mark(2, 0);
     let mut out = [9; 20];
-    match write_to(&sheet, &mut out) {
-        Ok(_) => assert!(rt; false),
-        Err(d) => assert_eq!(rt; d.number(), 12),
-    }
+    assert_eq!(rt; declined_by(write_to(&sheet, &mut out)), Some(12));
     assert!(rt; out == [9; 20]);
 }

@@ -2,6 +2,8 @@
 use Rattle.std.proofs.Common.{◌≡◌, Bool, true, false, sym, refl, ap, ◌∙◌, subst, ap₂}
 use Rattle.scale.specs.declared.scale.Scale.{Ghosts}
 use Rattle.scale.specs.Scales.{Lawful}
+pub use Rattle.std.proofs.lemmas.Bool.{true_from_ne_false as proved}
+use Rattle.std.proofs.lemmas.Bool.{false_from_ne_true}
 pub use Rattle.model.proofs.Steps.{clash}
 
 pub by_bool : {P : Type 0} (b : Bool) → (b ≡ true → P) → (b ≡ false → P) → P
@@ -10,13 +12,6 @@ by_bool {P} b f g = go b refl
     go : (t : Bool) → b ≡ t → P
     go true e = f e
     go false e = g e
-
--- a test that is not true is false
-pub refuted : (b : Bool) → (b ≡ true → ⊥) → b ≡ false
-refuted b f = by_bool b (λ e. absurd (f e)) (λ e. e)
-
-pub proved : (b : Bool) → (b ≡ false → ⊥) → b ≡ true
-proved b f = by_bool b (λ e. e) (λ e. absurd (f e))
 
 module _ {V : Type 0} (s : Ghosts V) (laws : Lawful s) where
   abbrev nothing : V
@@ -35,9 +30,6 @@ module _ {V : Type 0} (s : Ghosts V) (laws : Lawful s) where
       go true e = absurd (clash (less a a) (laws.trans a b a p e) (laws.irrefl a))
       go false e = refl
 
-  pub lt_le : (a b : V) → less a b ≡ true → less b a ≡ false
-  lt_le a b p = asym a b p
-
   pub lt_le_trans : (a b c : V) → less a b ≡ true → less c b ≡ false → less a c ≡ true
   lt_le_trans a b c p q = by_bool (less b c) (λ e. laws.trans a b c p e) (λ e. subst (λ (z : V). less a z ≡ true) (laws.total b c e q) p)
 
@@ -45,7 +37,7 @@ module _ {V : Type 0} (s : Ghosts V) (laws : Lawful s) where
   le_lt_trans a b c p q = by_bool (less a b) (λ e. laws.trans a b c e q) (λ e. subst (λ (z : V). less z c ≡ true) (sym (laws.total a b e p)) q)
 
   pub le_trans : (a b c : V) → less b a ≡ false → less c b ≡ false → less c a ≡ false
-  le_trans a b c p q = refuted (less c a) (λ e. clash (less c b) (lt_le_trans c a b e p) q)
+  le_trans a b c p q = false_from_ne_true (less c a) (λ e. clash (less c b) (lt_le_trans c a b e p) q)
 
   pub lt_plus : (a b c : V) → less a b ≡ true → less (plus c a) (plus c b) ≡ true
   lt_plus a b c p = ap₂ less (laws.comm c a) (laws.comm c b) ∙ laws.mono a b c p

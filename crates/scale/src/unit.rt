@@ -1,4 +1,5 @@
 // The unit scale: -1 for a mark and 0 for a hop, whatever the thresholds.
+// A type beside `Whole` and not one for both: mark, hop and extent differ, and a parameter that chose them would be no shorter.
 ghost use Rattle.scale.specs.Units.{of_unit, unit_plus, unit_sum, unit_less, unit_mark, unit_hop, UnitExtent};
 ghost use Rattle.std.specs.Prelude.{pos};
 ghost use Rattle.scale.specs.Numbers.{unit_laws};
@@ -6,7 +7,7 @@ ghost use Rattle.scale.specs.Numbers.{unit_laws};
 use crate::scale::Scale;
 use model::thresholds::Thresholds;
 
-#[derive(Clone, Copy)]
+#[derive(Clone, Copy, Debug, PartialEq, Eq)]
 pub struct Unit {
     pub value: i64,
 }

@@ -1,5 +1,5 @@
 -- A whole script, put together from its lines, their calls and the answers. Assumes nothing.
-use Rattle.std.proofs.Common.{◌≡◌, ℕ, zero, suc, ◌<◌, List, [], ◌∷◌, ◌++◌, get_or, take, drop, codes, refl, ap, ◌∙◌, subst, ap₂}
+use Rattle.std.proofs.Common.{◌≡◌, ℕ, ◌<◌, List, ◌++◌, get_or, take, codes, ◌∙◌, subst, ap₂}
 use Rattle.std.specs.List.{flat_map}
 use Rattle.sheet.specs.Meanings.{Meaning}
 use Rattle.archive.specs.declared.call.Call.{Call}
@@ -20,16 +20,3 @@ opened m script cs ds rs xs out lines bytes spoken same right said all ok is =
     let said_of : AllSaid rs lines = subst (λ (zs : List Answer). AllSaid zs lines) said all in
     let lines_are : lines ≡ flat_map line_of rs = said_of.whole (λ k l. right_prints (run m (take k cs)) (get_or cs k (Enter 0)) (get_or rs k Taken) (fits.each k (subst (λ (n : ℕ). k < n) fits.long l))) in
     record { calls = cs; answers = rs; spoken = spoken; right = fits; printed = is ∙ ap₂ (λ (a b : List ℕ). a ++ b) ok lines_are }
-
--- what comes after the byte at k
-pub past_at : (xs ys zs : List ℕ) (k : ℕ) → ys ≡ drop k xs → zs ≡ drop 1 ys → zs ≡ drop (suc k) xs
-past_at xs ys zs k e f = f ∙ ap (drop 1) e ∙ drop_drop xs k
-  where
-    drop_none : (n : ℕ) → drop {A = ℕ} n [] ≡ []
-    drop_none zero = refl
-    drop_none (suc n) = refl
-
-    drop_drop : (bs : List ℕ) (n : ℕ) → drop 1 (drop n bs) ≡ drop (suc n) bs
-    drop_drop [] n = ap (drop 1) (drop_none n)
-    drop_drop (b ∷ bs) zero = refl
-    drop_drop (b ∷ bs) (suc n) = drop_drop bs n

@@ -1,12 +1,10 @@
 -- A line has one call, and at most 17 bytes.
-use Rattle.std.proofs.Common.{◌≡◌, ℕ, ◌<◌, ◌≤◌, cond, eqb, List, ◌++◌, length, get_or, drop, Some, None, decimal, Option, sym, refl, ap, ◌∙◌, ap₂, inl, inr, arith, length-append}
+use Rattle.std.proofs.Common.{◌≡◌, ℕ, ◌<◌, ◌≤◌, cond, eqb, List, ◌++◌, length, get_or, drop, Some, None, Option, sym, refl, ap, ◌∙◌, ap₂, inl, inr, arith, length-append}
 use Rattle.std.proofs.lemmas.Fmt.{decimal_injective, length-decimal-le}
-use Rattle.script.specs.declared.verb.Verb.{Verb}
-use Rattle.script.specs.declared.verb.Verb.TheVariants.{Enter, Mark, Strike, Loose, Strict, Unit as OnUnits}
 use Rattle.script.specs.Numbers.{field}
-use Rattle.script.specs.Lines.{letter, arity, call_of, fields, Fields}
+use Rattle.script.specs.Lines.{Verb, Enter, Mark, Strike, Loose, Strict, OnUnits, letter, arity, call_of, fields, Fields}
 use Rattle.script.specs.Statements.{ReadOneWay, LinesShort, LongLinesWrong}
-use Rattle.script.proofs.Fields.{first_space, cut_left, cut_right}
+use Rattle.script.proofs.Fields.{second_space, cut_left, cut_right}
 
 -- the verb of a letter, by its place in the alphabet
 verb_at : ℕ → Option Verb
@@ -32,8 +30,8 @@ same_field n m a b e = decimal_injective n m (omega arith) (omega arith) (ap (dr
 -- two fields are cut at one place only, so they are the fields of the same two numbers
 same_fields : (n m p q : ℕ) → n < 10000000 → m < 10000000 → p < 10000000 → q < 10000000 → field n ++ field m ≡ field p ++ field q → (n ≡ p) × (m ≡ q)
 same_fields n m p q a b c d e =
-    let k = length (decimal n) in
-    let s = first_space n m a in
+    let k = length (field n) in
+    let s = second_space n m b in
     let bs = field n ++ field m in
     let f : Fields 2 bs n m = record { small = a; small₂ = b; is = refl } in
     let g : Fields 2 bs p q = record { small = c; small₂ = d; is = e } in

@@ -22,12 +22,8 @@ use Rattle.script.specs.Text.{whole_text, unit_text, pair_text, entry_text, text
 use Rattle.script.specs.Statements.{Modest, ModestPrintable}
 
 -- a byte has at most 3 digits
-pub byte_long : (n : ℕ) → n < 2 ^ 8 → length (decimal n) ≤ 3
+byte_long : (n : ℕ) → n < 2 ^ 8 → length (decimal n) ≤ 3
 byte_long n h = length-decimal-le 3 n (omega arith) (omega arith) (omega arith)
-
--- the size of a 64-bit number has at most 19 digits
-pub size_long : (n : ℕ) → n ≤ 2 ^ 63 → length (decimal n) ≤ 19
-size_long n h = length-decimal-le 19 n (omega arith) (omega arith) (omega arith)
 
 -- what 4,096 steps of at most 1,000,000 each can reach has at most 11 bytes
 signed_long : (z : ℤ) → nat_abs z ≤ 4096 * 1000000 → length (signed_decimal z) ≤ 11

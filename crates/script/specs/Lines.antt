@@ -1,11 +1,18 @@
 -- The form of a line, and the call that it stands for. Assumes nothing.
-use Rattle.std.specs.Prelude.{◌≡◌, ℕ, zero, suc, ◌<◌, min, List, [], ◌∷◌, ◌++◌, ◌≢◌}
+use Rattle.std.specs.Prelude.{◌≡◌, ℕ, zero, suc, ◌<◌, min, List, [], ◌∷◌, ◌++◌}
 use Rattle.model.specs.declared.thresholds.Thresholds.{Thresholds}
 use Rattle.archive.specs.declared.call.Call.{Call}
 use Rattle.archive.specs.declared.call.Call.TheVariants as call
-use Rattle.script.specs.declared.verb.Verb.{Verb}
-use Rattle.script.specs.declared.verb.Verb.TheVariants.{Enter, Mark, Strike, Loose, Strict, Unit as OnUnits}
 use Rattle.script.specs.Numbers.{field}
+
+-- what the letter at the front of a line asks for
+pub data Verb : Type 0 where
+  Enter : Verb
+  Mark : Verb
+  Strike : Verb
+  Loose : Verb
+  Strict : Verb
+  OnUnits : Verb
 
 -- e m s g h o
 abbrev pub letter : Verb → ℕ
@@ -15,9 +22,6 @@ letter Strike = 115
 letter Loose = 103
 letter Strict = 104
 letter OnUnits = 111
-
-abbrev pub NoLetter : ℕ → Type 0
-NoLetter b = (v : Verb) → b ≢ letter v
 
 -- how many numbers follow the letter
 abbrev pub arity : Verb → ℕ

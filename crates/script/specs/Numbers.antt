@@ -1,5 +1,5 @@
 -- Numbers as the lines of a script write them. Assumes nothing.
-use Rattle.std.specs.Prelude.{◌≡◌, ℕ, ◌<◌, Bool, cond, ◌&&◌, List, [], ◌∷◌, length, ℤ, pos, codes, decimal, ◌==◌, int_lt, nat_lt, slice_index}
+use Rattle.std.specs.Prelude.{◌≡◌, ℕ, ◌<◌, Bool, ◌&&◌, List, ◌∷◌, length, decimal, ◌==◌, nat_lt, slice_index}
 
 -- the bytes are n in decimal: one to seven digits, without leading zeros
 pub record Number (bytes : List ℕ) (n : ℕ) : Type 0 where
@@ -24,7 +24,3 @@ pub record Field (bytes : List ℕ) (n : ℕ) : Type 0 where
 
 abbrev pub NoField : List ℕ → Type 0
 NoField bytes = (n : ℕ) → Field bytes n → ⊥
-
--- the minus sign in front of what is below 0
-abbrev pub sign_of : ℤ → List ℕ
-sign_of z = cond (int_lt z (pos 0)) (codes "-") []

@@ -1,7 +1,6 @@
--- What writing from a place on does to bytes. Assumes nothing.
-use Rattle.std.specs.Prelude.{◌≡◌, ℕ, ◌+◌, List, ◌++◌, length, take}
+-- What writing at the end of a line does. Assumes nothing.
+use Rattle.std.specs.Prelude.{◌≡◌, ℕ, ◌+◌, ◌<◌, List, ◌++◌, length, Result, MatchResult}
 
--- the bytes up to `end` are those that were there up to `at`, and then the text
-pub record Put (before : List ℕ) (at : ℕ) (text : List ℕ) (end : ℕ) (after : List ℕ) : Type 0 where
-  pub ends : end ≡ at + length text
-  pub front : take end after ≡ take at before ++ text
+-- the text stands after what was there, or a line of 2,048 bytes has no room for it
+abbrev pub Put : {A E : Type 0} → List ℕ → List ℕ → List ℕ → Result A E → Type 0
+Put before text after r = MatchResult r (λ _. after ≡ before ++ text) (λ _. 2048 < length before + length text)

@@ -53,6 +53,11 @@ entries_of (Units v) = vec_len v
 abbrev pub printable : Answer → Bool
 printable a = nat_le (entries_of a) 64 && nat_le (length (line_of a)) 2048
 
+-- the answer is printable, and the bytes are its line
+pub record Lined (a : Answer) (bytes : List ℕ) : Type 0 where
+  pub able : printable a ≡ true
+  pub line : bytes ≡ line_of a
+
 -- the line stands at the front, of n bytes, and all past it is kept
 pub record LinePut (a : Answer) (before after : List ℕ) (n : ℕ) : Type 0 where
   pub room : 2048 ≤ length before

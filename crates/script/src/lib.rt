@@ -1,7 +1,6 @@
 // Scripts: bytes to lines to calls, and answers to lines of bytes.
 #![tactic(auto)]
 
-mod find;
 pub mod lines;
 pub mod make;
 mod number;
@@ -11,5 +10,4 @@ pub mod run;
 pub mod say;
 mod spell;
 pub mod theorems;
-pub mod verb;
 mod write;

@@ -6,38 +6,15 @@ ghost use Rattle.script.specs.Numbers.{leading_zero, Number, NoNumber};
 fn has_leading_zero(bytes: &[u8]) -> bool
     ensures { result ≡ leading_zero bytes.now }
 {
-    bytes.len() > 1 && bytes[0] == b'0'
+    matches!(bytes, [b'0', _, ..])
 }
 
-// The number that a text writes, if it writes one.
-fn number(text: &str) -> Option<u32>
-    ensures { MatchOption result (NoNumber text.now) (Number text.now) }
-{
-    let bytes = text.as_bytes();
-    if bytes.len() == 0 {
-        return None;
-    }
-    if bytes.len() > 7 {
-        return None;
-    }
-    if bytes[0] == b'+' {
-        return None;
-    }
-    if has_leading_zero(bytes) {
-        return None;
-    }
-    match text.parse::<u32>() {
-        Ok(n) => Some(n),
-        Err(_) => None,
-    }
-}
-
-// The number that bytes write, if they write one.
+// The number that bytes write, if they write one. Digits alone do: parse would take a + in front of them.
 pub fn number_in(bytes: &[u8]) -> Option<u32>
     ensures { MatchOption result (NoNumber bytes.now) (Number bytes.now) }
 {
-    match std::str::from_utf8(bytes) {
-        Ok(text) => number(text),
-        Err(_) => None,
+    if bytes.len() > 7 || bytes.starts_with(b"+") || has_leading_zero(bytes) {
+        return None;
     }
+    std::str::from_utf8(bytes).ok()?.parse().ok()
 }

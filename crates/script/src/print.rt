@@ -1,70 +1,22 @@
 // The line of an answer: "ok" or "no" and a number, a ring after "no", and the entries of a grading after "ok", with one
 // space before each item and byte 10 at the end.
-ghost use Rattle.std.specs.Prelude.{◌≡◌, ◌+◌, ◌*◌, ◌≤◌, ◌++◌, length, take, drop};
+ghost use Rattle.std.specs.Prelude.{◌≡◌, ◌++◌, codes, MatchResult, false};
 ghost use Rattle.std.specs.List.{flat_map};
-ghost use Rattle.script.specs.Numbers.{field};
 ghost use Rattle.script.specs.Puts.{Put};
-ghost use Rattle.script.specs.Text.{entry_text, text_of, entries_of, Printed};
+ghost use Rattle.script.specs.Text.{text_of, entries_of, printable, Lined, Printed};
 
-use crate::spell::Spelled;
-use crate::write::{put_number, put_text};
-use archive::answer::{Answer, Graded};
+use crate::spell::{Spelled, put_all};
+use crate::write::{Line, put_text};
+use archive::answer::Answer;
+use arrayvec::CapacityError;
 use model::decline::Decline;
-
-// A space and a small number.
-fn put_field(out: &mut [u8], at: usize, n: u8) -> usize
-    requires { at + 4 ≤ length out.old }
-    ensures written { Put out.old at (field n) result out.new }
-    ensures within { result ≤ at + 4 }
-{
-    let space = put_text(out, at, b" ");
-    put_number(out, space, n as u64)
-}
-
-// The records of a ring, in their order.
-fn put_ring(out: &mut [u8], at: usize, ring: &[u8]) -> usize
-    requires { at + 4 * length ring.now ≤ length out.old }
-    ensures written { Put out.old at (flat_map field ring.now) result out.new }
-    ensures within { result ≤ at + 4 * length ring.now }
-{
-    let mut end = at;
-    for i in 0..ring.len() {
-        end = put_field(out, end, ring[i]);
-    }
-    end
-}
-
-// A record and its grade.
-fn put_entry<V: Spelled>(out: &mut [u8], at: usize, entry: Graded<V>) -> usize
-    requires { at + 46 ≤ length out.old }
-    ensures written { Put out.old at (entry_text V.Spelled.text entry) result out.new }
-    ensures within { result ≤ at + 46 }
-{
-    let name = put_field(out, at, entry.record);
-    let colon = put_text(out, name, b":");
-    entry.grade.put(out, colon)
-}
-
-// The entries of a grading on any scale.
-fn put_entries<V: Spelled>(out: &mut [u8], at: usize, entries: &[Graded<V>]) -> usize
-    requires { at + 46 * length entries.now ≤ length out.old }
-    ensures written { Put out.old at (flat_map (entry_text V.Spelled.text) entries.now) result out.new }
-    ensures within { result ≤ at + 46 * length entries.now }
-{
-    let mut end = at;
-    for i in 0..entries.len() {
-        end = put_entry(out, end, entries[i]);
-    }
-    end
-}
 
 // How many records an answer lists.
 fn entries_in(answer: &Answer) -> usize
     ensures { result ≡ entries_of answer.now }
 {
     match answer {
-        Answer::Taken => 0,
-        Answer::Declined(_) => 0,
+        Answer::Taken | Answer::Declined(_) => 0,
         Answer::Forced(_, ring) => ring.len(),
         Answer::Wholes(entries) => entries.len(),
         Answer::Pairs(entries) => entries.len(),
@@ -72,64 +24,59 @@ fn entries_in(answer: &Answer) -> usize
     }
 }
 
-// The text of an answer, from the front.
-fn put_answer(out: &mut [u8], answer: &Answer) -> usize
-    requires { (4096 ≤ length out.old) × (entries_of answer.now ≤ 64) }
-    ensures written { Put out.old 0 (text_of answer.now) result out.new }
-    ensures within { result ≤ 4000 }
+// The entries of a grading on any scale.
+fn put_grades<T: Spelled>(line: &mut Line, entries: &[T]) -> Result<(), CapacityError>
+    ensures { Put line.old.items (codes "ok" ++ flat_map T.text entries.now) line.new.items result }
+{
+    put_text(line, b"ok")?;
+    put_all(line, entries)
+}
+
+// The text of an answer.
+fn put_answer(line: &mut Line, answer: &Answer) -> Result<(), CapacityError>
+    ensures { Put line.old.items (text_of answer.now) line.new.items result }
 {
     match answer {
-        Answer::Taken => put_text(out, 0, b"ok"),
+        Answer::Taken => put_text(line, b"ok"),
         Answer::Declined(d) => {
-            let no = put_text(out, 0, b"no");
-            put_field(out, no, d.number())
+            put_text(line, b"no")?;
+            d.number().put(line)
         }
         Answer::Forced(d, ring) => {
-            let no = put_text(out, 0, b"no");
-            let number = put_field(out, no, d.number());
-            let word = put_text(out, number, b" ring");
-            put_ring(out, word, ring)
+            put_text(line, b"no")?;
+            d.number().put(line)?;
+            put_text(line, b" ring")?;
+            put_all(line, ring)
         }
-        Answer::Wholes(entries) => {
-            let ok = put_text(out, 0, b"ok");
-            put_entries(out, ok, entries)
-        }
-        Answer::Pairs(entries) => {
-            let ok = put_text(out, 0, b"ok");
-            put_entries(out, ok, entries)
-        }
-        Answer::Units(entries) => {
-            let ok = put_text(out, 0, b"ok");
-            put_entries(out, ok, entries)
-        }
+        Answer::Wholes(entries) => put_grades(line, entries),
+        Answer::Pairs(entries) => put_grades(line, entries),
+        Answer::Units(entries) => put_grades(line, entries),
     }
 }
 
-// The first n bytes over the front of others.
-fn copy_front(from: &[u8], n: usize, to: &mut [u8])
-    requires { (n ≤ length from.now) × (n ≤ length to.old) }
-    ensures { to.new ≡ take n from.now ++ drop n to.old }
+// Fills a line anew with that of an answer: its text, and byte 10. Refused where the answer lists more than 64 records,
+// and where its line is longer than 2,048 bytes.
+pub(crate) fn fill(line: &mut Line, answer: &Answer) -> Result<(), CapacityError>
+    ensures { MatchResult result (λ _. Lined answer.now line.new.items) (λ _. printable answer.now ≡ false) }
 {
-    to[..n].copy_from_slice(&from[..n]);
+    if entries_in(answer) > 64 {
+        return Err(CapacityError::new(()));
+    }
+    line.clear();
+    put_answer(line, answer)?;
+    put_text(line, b"\n")
 }
 
-// Writes an answer's line at the front of `out` and answers its length. Declined by 1 where `out` is shorter than 2,048
-// bytes, where the answer lists more than 64 records, and where its line is longer than 2,048 bytes.
+// Writes an answer's line at the front of `out` and answers its length, since the caller brings the memory. Declined by 1
+// where `out` is shorter than 2,048 bytes, and where the answer has no line.
 pub fn print(answer: &Answer, out: &mut [u8]) -> Result<usize, Decline>
     ensures { Printed answer.now out.old out.new result }
 {
     if out.len() < 2048 {
         return Err(Decline::TooLittleMemory);
     }
-    if entries_in(answer) > 64 {
-        return Err(Decline::TooLittleMemory);
-    }
-    let mut line = [0u8; 4096];
-    let text = put_answer(&mut line, answer);
-    let end = put_text(&mut line, text, b"\n");
-    if end > 2048 {
-        return Err(Decline::TooLittleMemory);
-    }
-    copy_front(&line, end, out);
-    Ok(end)
+    let mut line = Line::new();
+    fill(&mut line, answer).map_err(|_| Decline::TooLittleMemory)?;
+    out[..line.len()].copy_from_slice(&line);
+    Ok(line.len())
 }

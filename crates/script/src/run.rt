@@ -1,11 +1,10 @@
 // A whole script: from its bytes to the bytes of its answers.
-ghost use Rattle.std.specs.Prelude.{◌≡◌, IfOk};
+ghost use Rattle.std.specs.Prelude.{IfOk};
 ghost use Rattle.sheet.specs.Views.{meaning_of};
 ghost use Rattle.script.specs.Judged.{Opened, Judged};
 ghost use Rattle.script.specs.Makes.{new_sheet};
 
-use crate::find::find;
-use crate::lines::{calls_in, past};
+use crate::lines::{bare, calls_in, first_line};
 use crate::make::{Make, make_in};
 use crate::say::say_all;
 use archive::replay::replay;
@@ -38,12 +37,11 @@ fn open(heap: Global, make: Make, script: &[u8]) -> Result<Vec<u8>, AllocError>
 pub fn run(heap: Global, script: &[u8]) -> Result<Vec<u8>, AllocError>
     ensures { IfOk result (λ v. Judged script.now v.items) }
 {
-    if script.len() == 0 {
+    let Some(first) = first_line(script) else {
         return Ok(Vec::new(heap));
-    }
-    let (first, rest) = script.split_at(find(b'\n', script));
-    match make_in(first) {
-        Some(make) => open(heap, make, past(rest)),
+    };
+    match make_in(bare(first)) {
+        Some(make) => open(heap, make, &script[first.len()..]),
         None => Vec::from_slice(heap, b"no 17\n"),
     }
 }

@@ -2,28 +2,29 @@
 ghost use Rattle.std.specs.Prelude.{◌≡◌, ◌++◌, IfOk, OnOk};
 ghost use Rattle.script.specs.Text.{said, AllSaid};
 
-use crate::print::print;
+use crate::print::fill;
+use crate::write::Line;
 use archive::answer::Answer;
 use std::alloc::{AllocError, Global};
 
-// One answer's line at the end; nothing where it has no line.
-fn say(out: &mut Vec<u8>, answer: &Answer) -> Result<(), AllocError>
+// One answer's line at the end; nothing where it has no line. The line that it is put together in is of no use after.
+fn say(line: &mut Line, out: &mut Vec<u8>, answer: &Answer) -> Result<(), AllocError>
     ensures { OnOk result (out.new.items ≡ out.old.items ++ said answer.now) }
 {
-    let mut line = [0u8; 2048];
-    if let Ok(n) = print(answer, &mut line) {
-        out.extend_from_slice(&line[0..n])?;
+    match fill(line, answer) {
+        Ok(()) => out.extend_from_slice(line),
+        Err(_) => Ok(()),
     }
-    Ok(())
 }
 
-// The lines of the answers in their order; an answer that print declines is left out.
+// The lines of the answers in their order; an answer that has no line is left out.
 pub fn say_all(heap: Global, answers: &[Answer]) -> Result<Vec<u8>, AllocError>
     ensures { IfOk result (λ v. AllSaid answers.now v.items) }
 {
+    let mut line = Line::new();
     let mut out = Vec::new(heap);
     for answer in answers {
-        say(&mut out, answer)?;
+        say(&mut line, &mut out, answer)?;
     }
     Ok(out)
 }

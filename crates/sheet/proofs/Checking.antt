@@ -11,10 +11,6 @@ use Rattle.sheet.specs.States.{is_absent, is_aside}
 use Rattle.sheet.specs.Checks.{pair_check}
 use Rattle.sheet.specs.Calls.{after_check, Called}
 
--- two different constructors: `clash cc` refutes an equation between them
-pub clash : {X : Type 0} → ◌≡◌ {A = ℕ} 0 1 → X
-clash e = absurd (omega arith)
-
 -- no refusal has the number of a call that is taken
 pub number_some : (d : Decline) → number_of d ≡ 0 → ⊥
 number_some TooLittleMemory e = omega arith

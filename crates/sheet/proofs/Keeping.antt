@@ -1,8 +1,9 @@
 -- A make that keeps a word of present records and a table of marks: what its calls owe. Assumes nothing.
-use Rattle.std.proofs.Common.{◌≡◌, ℕ, zero, suc, ◌+◌, ◌-◌, Bool, true, false, cond, eqb, Ok, Result, sym, refl, ap, ◌∙◌}
+use Rattle.std.proofs.Common.{◌≡◌, ℕ, zero, suc, ◌+◌, ◌-◌, Bool, true, false, cond, eqb, Ok, IsErrAnd, Result, sym, refl, ap, ◌∙◌}
 use mathlib.Core.Path.{fun_ext}
-use Rattle.std.proofs.lemmas.Bool.{both_ways, ne_eqb}
+use Rattle.std.proofs.lemmas.Bool.{ne_eqb}
 use Rattle.model.specs.declared.decline.Decline.{Decline}
+use Rattle.model.specs.Refusals.{number_of}
 use Rattle.model.specs.Sets.{has, put}
 use Rattle.model.proofs.Digits.{has_zero}
 use Rattle.sheet.specs.declared.state.State.TheVariants.{Absent, Standing}
@@ -11,11 +12,11 @@ use Rattle.sheet.specs.Checks.{entry_check, enter_check, pair_check, mark_check,
 use Rattle.sheet.specs.Calls.{put_state, put_mark, entered, marked, struck, after_check, Called}
 use Rattle.sheet.specs.Kept.{present_states, kept_meaning, Irreflexive, PresentFrom, PresentTo}
 use Rattle.sheet.specs.Counts.{put_keeps, put_irreflexive}
-use Rattle.sheet.proofs.Checking.{Clear, clash, called_by, call_taken, pair_clear, pair_open}
+use Rattle.sheet.proofs.Checking.{Clear, called_by, call_taken, pair_clear, pair_open, pair_left}
 
 present_stands : (b : Bool) → cond b Standing Absent ≡ Standing → b ≡ true
 present_stands true e = refl
-present_stands false e = clash (cc)
+present_stands false e = cc
 
 -- what such a make promises of its table, by the names of its ghost fields
 pub record Promises (present : ℕ) (m : ℕ → ℕ → Bool) : Type 0 where
@@ -24,13 +25,6 @@ pub record Promises (present : ℕ) (m : ℕ → ℕ → Bool) : Type 0 where
   pub to : PresentTo present m
 
 -- a make that is new: no bit in its word, no mark in its table
-pub bare_keeps : (present : ℕ) (m : ℕ → ℕ → Bool) → ((u v : ℕ) → m u v ≡ false) → Promises present m
-bare_keeps present m bare = record {
-  irreflexive = λ u. bare u u;
-  from = λ u v h. absurd (both_ways (m u v) (bare u v) h);
-  to = λ u v h. absurd (both_ways (m u v) (bare u v) h);
-}
-
 pub bare_empty : {present held : ℕ} {m : ℕ → ℕ → Bool} (capacity : ℕ) → present ≡ 0 → m ≡ (λ u v. false) → held ≡ 0 → kept_meaning present m held capacity ≡ empty capacity
 bare_empty capacity none bare nil =
     let absent : present_states 0 ≡ (λ u. Absent) = fun_ext (λ u. ap (λ (b : Bool). cond b Standing Absent) (has_zero u)) in
@@ -53,18 +47,14 @@ put_more f u x h = go (eqb x u)
     go true = refl
     go false = h
 
--- a call that u enters, taken or not, on the word alone
-module _ {n : ℕ} {r : Result (Unit {0}) Decline} (present still u : ℕ) (told : Called n (has present) (put (has present) u true) (has still) r) where
-  -- whoever was there is still there
-  stays : (x : ℕ) → has present x ≡ true → has still x ≡ true
-  stays x h = go n told.meaning
-    where
-      go : (n : ℕ) → has still ≡ after_check n (put (has present) u true) (has present) → has still x ≡ true
-      go zero e = ap (λ f. f x) e ∙ put_more (has present) u x h
-      go (suc k) e = ap (λ f. f x) e ∙ h
-
-  pub entered_keeps : (m : ℕ → ℕ → Bool) → Irreflexive m → PresentFrom present m → PresentTo present m → Promises still m
-  entered_keeps m free from to = record { irreflexive = free; from = λ x y h. stays x (from x y h); to = λ x y h. stays y (to x y h) }
+-- a call that u enters, taken or not, on the word alone: whoever was there is still there
+pub stays : {n : ℕ} {r : Result (Unit {0}) Decline} (present still u : ℕ) → Called n (has present) (put (has present) u true) (has still) r
+    → (x : ℕ) → has present x ≡ true → has still x ≡ true
+stays {n = n} present still u told x h = go n told.meaning
+  where
+    go : (n : ℕ) → has still ≡ after_check n (put (has present) u true) (has present) → has still x ≡ true
+    go zero e = ap (λ f. f x) e ∙ put_more (has present) u x h
+    go (suc k) e = ap (λ f. f x) e ∙ h
 
 -- the same call, told by what the make means: only the states can change
 pub enter_called : {r : Result (Unit {0}) Decline} (present still u : ℕ) (m : ℕ → ℕ → Bool) (held capacity : ℕ)
@@ -74,6 +64,12 @@ pub enter_called : {r : Result (Unit {0}) Decline} (present still u : ℕ) (m : 
 enter_called present still u m held capacity told =
     called_by (λ (f : ℕ → Bool). record { states = λ x. cond (f x) Standing Absent; marks = m; held = held; capacity = capacity }) refl
     (λ e i. record { states = states_put (has present) u i; marks = m; held = held; capacity = capacity }) told
+
+-- a pair that fails a check of such a make, whose error is handed on by `?`
+pub kept_left : {A : Type 0} {before changed : A} {r : Result (Unit {0}) Decline} (present u v k : ℕ) (d : Decline)
+    → IsErrAnd r (λ e. e ≡ d) → number_of d ≡ pair_check u v (present_states present u) (present_states present v) 0
+    → Called (pair_check u v (present_states present u) (present_states present v) k) before changed before r
+kept_left {r = r} present u v k d = pair_left u v (present_states present u) (present_states present v) k r d
 
 -- a pair that passed the checks of such a make
 pub passed_clear : (present u v : ℕ) → 0 ≡ pair_check u v (present_states present u) (present_states present v) 0 → Clear u v (present_states present u) (present_states present v)

@@ -1,3 +1,3 @@
 pub mod Checking
-pub mod Tables
 pub mod Keeping
+pub mod Tables

@@ -1,30 +1,27 @@
 -- What the rows of a bit sheet mean before and after one bit is changed. Assumes nothing.
-use Rattle.std.proofs.Common.{◌≡◌, ℕ, zero, ◌+◌, ◌-◌, ◌<◌, ◌≤◌, Bool, true, false, cond, ◌&&◌, eqb, ◌⊎◌, List, length, get_or, set, replicate, Ok, sym, refl, ap, ◌∙◌, subst, inl, inr, arith, get_or-set_other, get_or-set_same}
+use Rattle.std.proofs.Common.{◌≡◌, ℕ, zero, ◌+◌, ◌<◌, ◌≤◌, Bool, true, false, cond, ◌&&◌, eqb, ◌⊎◌, ◌^◌, List, [], ◌∷◌, length, get_or, set, replicate, Ok, sym, ap, ◌∙◌, inl, inr, arith, get_or-set_other, get_or-set_same}
 use mathlib.Core.Path.{fun_ext}
 use lib.ListN.{get_or-replicate, length-replicate}
+use lib.Count.{ones, ones-le}
+use Rattle.std.specs.List.{sum_by}
+use Rattle.std.proofs.lemmas.List.Sums.{sum_by-cons}
 use Rattle.std.proofs.lemmas.List.{get_or_past}
-use Rattle.std.proofs.lemmas.Bool.{cases_lt, cases_Bool, cases_eq, le-ltb, eq-eqb, ne_eqb}
-use Rattle.model.specs.Rings.{bit}
+use Rattle.std.proofs.lemmas.Bool.{cases_lt, cases_Bool, cases_eq, eq-eqb, ne_eqb}
+use Rattle.model.specs.Rings.{bit, sum_to}
 use Rattle.model.specs.Sets.{has, put}
-use Rattle.model.proofs.Digits.{has_bound, has_zero}
-use Rattle.sheet.specs.declared.state.State.{State}
-use Rattle.sheet.specs.declared.state.State.TheVariants.{Absent, Standing}
+use Rattle.model.proofs.Digits.{has_bound, has_zero, ones_count}
+use Rattle.model.proofs.Sums.{sum_none, sum_front, sum_same}
 use Rattle.sheet.specs.Meanings.{pairs, empty}
-use Rattle.sheet.specs.Checks.{enter_check, pair_check, mark_check, strike_check}
-use Rattle.sheet.specs.Calls.{put_state, put_mark, entered, marked, struck, Called}
-use Rattle.sheet.specs.Rows.{row_states, row_marks, rows_meaning, Irreflexive, PresentFrom, PresentTo}
-use Rattle.sheet.specs.Counts.{put_keeps, put_irreflexive, pairs_put, pairs_room, pairs_none}
-use Rattle.sheet.proofs.Checking.{Clear, call_taken, pair_clear, pair_open, low_left, low_right}
-
-clash : {X : Type 0} → ◌≡◌ {A = ℕ} 0 1 → X
-clash e = absurd (omega arith)
-
-row_stands : (b : Bool) → cond b Standing Absent ≡ Standing → b ≡ true
-row_stands true e = refl
-row_stands false e = clash (cc)
+use Rattle.sheet.specs.Checks.{pair_check, mark_check, strike_check}
+use Rattle.sheet.specs.Calls.{put_mark, marked, struck, Called}
+use Rattle.sheet.specs.Kept.{present_states, Irreflexive, PresentFrom}
+use Rattle.sheet.specs.Rows.{row_marks, rows_meaning}
+use Rattle.sheet.specs.Counts.{sum_bound, pairs_none, put_irreflexive, pairs_put, pairs_room}
+use Rattle.sheet.proofs.Checking.{low_left, low_right}
+use Rattle.sheet.proofs.Keeping.{Written, bare_empty, passed_clear, mark_taken, strike_taken}
 
 -- no row of a number above 63 has a bit
-pub far_row : (present : ℕ) (rows : List ℕ) → PresentFrom present rows → (u v : ℕ) → 64 ≤ u → row_marks rows u v ≡ false
+pub far_row : (present : ℕ) (rows : List ℕ) → PresentFrom present (row_marks rows) → (u v : ℕ) → 64 ≤ u → row_marks rows u v ≡ false
 far_row present rows from u v h = go (cases_Bool (row_marks rows u v))
   where
     go : (row_marks rows u v ≡ true) ⊎ (row_marks rows u v ≡ false) → row_marks rows u v ≡ false
@@ -32,18 +29,35 @@ far_row present rows from u v h = go (cases_Bool (row_marks rows u v))
     go (inr e) = e
 
 -- rows of zeros: nothing is marked
-pub zeros_bare : (n u v : ℕ) → row_marks (replicate n 0) u v ≡ false
-zeros_bare n u v = go (cases_lt u n)
+pub zeros_at : {rows : List ℕ} → rows ≡ replicate 64 0 → (u v : ℕ) → has (get_or rows u 0) v ≡ false
+zeros_at e u v = ap (λ xs. has (get_or xs u 0) v) e ∙ go (cases_lt u 64)
   where
-    go : (u < n) ⊎ (n ≤ u) → has (get_or (replicate n 0) u 0) v ≡ false
-    go (inl h) = ap (λ (x : ℕ). has x v) (get_or-replicate n u 0 0 h) ∙ has_zero v
-    go (inr h) = ap (λ (x : ℕ). has x v) (get_or_past (replicate n 0) u 0 (omega (arith, length-replicate n (zero)))) ∙ has_zero v
+    go : (u < 64) ⊎ (64 ≤ u) → has (get_or (replicate 64 0) u 0) v ≡ false
+    go (inl h) = ap (λ (x : ℕ). has x v) (get_or-replicate 64 u 0 0 h) ∙ has_zero v
+    go (inr h) = ap (λ (x : ℕ). has x v) (get_or_past (replicate 64 0) u 0 (omega (arith, length-replicate 64 (zero)))) ∙ has_zero v
 
-pub zeros_empty : (n : ℕ) → rows_meaning 0 (replicate n 0) ≡ empty 4032
-zeros_empty n =
-    let none : row_marks (replicate n 0) ≡ (λ u v. false) = fun_ext (λ u. fun_ext (λ v. zeros_bare n u v)) in
-    let absent : row_states 0 ≡ (λ u. Absent) = fun_ext (λ u. ap (λ (b : Bool). cond b Standing Absent) (has_zero u)) in
-    λ i. record { states = absent i; marks = none i; held = (ap pairs none ∙ pairs_none) i; capacity = 4032 }
+pub zeros_empty : {present : ℕ} {rows : List ℕ} → present ≡ 0 → rows ≡ replicate 64 0 → rows_meaning present rows ≡ empty 4032
+zeros_empty none e =
+    let bare : row_marks _ ≡ (λ u v. false) = fun_ext (λ u. fun_ext (λ v. zeros_at e u v)) in
+    bare_empty 4032 none bare (ap pairs bare ∙ pairs_none)
+
+-- a sum over the items of a list is one over their places
+sum_places : (f : ℕ → ℕ) (xs : List ℕ) → sum_by f xs ≡ sum_to (λ i. f (get_or xs i 0)) (length xs)
+sum_places f [] = sym (sum_none (λ i. f (get_or [] i 0)))
+sum_places f (x ∷ xs) = sum_by-cons f x xs ∙ ap (λ (n : ℕ). f x + n) (sum_places f xs) ∙ sym (sum_front (λ i. f (get_or (x ∷ xs) i 0)) (length xs))
+
+-- 64 rows have as many ones as there are marked pairs
+module _ (rows : List ℕ) (long : length rows ≡ 64) (fit : (u : ℕ) → get_or rows u 0 < 2 ^ 64) where
+  pub in_places : sum_by ones rows ≡ sum_to (λ u. ones (get_or rows u 0)) 64
+  in_places = sum_places ones rows ∙ ap (sum_to (λ u. ones (get_or rows u 0))) long
+
+  pub ones_fit : sum_by ones rows < 2 ^ 16
+  ones_fit = omega (arith, in_places, sum_bound (λ u. ones (get_or rows u 0)) 64 64 (λ u _. ones-le 64 (get_or rows u 0) (fit u)))
+
+  pub ones_pairs : sum_by ones rows ≡ pairs (row_marks rows)
+  unfolding pairs
+  ones_pairs =
+      in_places ∙ sum_same (λ u. ones (get_or rows u 0)) (λ u. sum_to (λ v. bit (row_marks rows u v)) 64) 64 (λ u _. ones_count (get_or rows u 0) (fit u))
 
 -- One bit of a row changed is one mark changed:
 -- row u reads as the new word, and every other row as before.
@@ -58,105 +72,36 @@ marks_set rows u v w b h e = fun_ext (λ x. fun_ext (λ y. go x y (cases_eq x u)
         ∙ ap (λ f. f y) e ∙ ap (λ (k : ℕ). cond (eqb y v) b (has (get_or rows k 0) y)) (sym i))
     go x y (inr ne) = simp (ne_eqb x u ne) (ap (λ (n : ℕ). has n y) (get_or-set_other rows u x w 0 ne))
 
--- one bit more is one standing record more
-states_set : (present still u : ℕ) → has still ≡ put (has present) u true → row_states still ≡ put_state (row_states present) u Standing
-unfolding put put_state
-states_set present still u e = fun_ext (λ x. ap (λ f. cond (f x) Standing Absent) e ∙ go (eqb x u) (has present x))
-  where
-    go : (t b : Bool) → cond (cond t true b) Standing Absent ≡ cond t Standing (cond b Standing Absent)
-    go true b = refl
-    go false b = refl
-
-put_more : (f : ℕ → Bool) (u x : ℕ) → f x ≡ true → put f u true x ≡ true
-unfolding put
-put_more f u x h = go (eqb x u)
-  where
-    go : (t : Bool) → cond t true (f x) ≡ true
-    go true = refl
-    go false = h
-
--- what a bit sheet promises of its rows, by the names of its ghost fields
-pub record Promises (present : ℕ) (rows : List ℕ) : Type 0 where
-  pub irreflexive : Irreflexive rows
-  pub from : PresentFrom present rows
-  pub to : PresentTo present rows
-
--- the rows of a sheet before and after u enters
-module _ (present still u : ℕ) {rows after : List ℕ} (bits : has still ≡ put (has present) u true) (same : after ≡ rows) where
-  pub entered_keeps : Irreflexive rows → PresentFrom present rows → PresentTo present rows
-      → Promises still after
-  entered_keeps free from to = subst (Promises still) (sym same) (record {
-    irreflexive = free;
-    from = λ x y h. ap (λ f. f x) bits ∙ put_more (has present) u x (from x y h);
-    to = λ x y h. ap (λ f. f y) bits ∙ put_more (has present) u y (to x y h);
-  })
-
-  -- entering an absent number is taken
-  pub enter_taken : u ≤ 63 → has present u ≡ false
-      → Called (enter_check (rows_meaning present rows) u) (rows_meaning present rows) (entered (rows_meaning present rows) u) (rows_meaning still after) (Ok tt)
-  enter_taken low bare =
-      let stands = states_set present still u bits in
-      call_taken (Ok tt) refl (simp (le-ltb 63 u low, bare))
-      (λ i. record { states = stands i; marks = row_marks (same i); held = pairs (row_marks (same i)); capacity = 4032 })
-
--- the rows of a sheet before and after the bit v of row u is made b, where u and v pass the checks
-pub record Written (present still : ℕ) (rows after : List ℕ) (u v : ℕ) (b : Bool) : Type 0 where
-  pub clear : Clear u v (row_states present u) (row_states present v)
-  pub marks : row_marks after ≡ put_mark (row_marks rows) u v b
-  pub kept : still ≡ present
-
--- A row that is read, changed at one bit and written back, after the pair passed the checks by its states s and t:
--- the checks put u and v below 64, so that row and bit are there to be written.
-pub written_back : {present still : ℕ} {rows after : List ℕ} {u v row : ℕ} {b : Bool} {s t : State} (w : ℕ)
-    → s ≡ row_states present u → t ≡ row_states present v → 0 ≡ pair_check u v s t 0
-    → row ≡ get_or rows u 0 → (v < 64 → has w ≡ put (has row) v b) → after ≡ set rows u w → length rows ≡ 64 → still ≡ present
-    → Written present still rows after u v b
-written_back {present = present} {rows = rows} {u = u} {v = v} {b = b} w left right passed read bits e long same =
-    let clear = pair_clear u v (row_states present u) (row_states present v) 0 (sym (rw (left, right) at passed)) in
+-- A row that is read, changed at one bit and written back, after the pair passed the checks:
+-- they put u and v below 64, so that row and bit are there to be written.
+pub written_back : {present u v row : ℕ} {b : Bool} (rows after : List ℕ) (w : ℕ)
+    → 0 ≡ pair_check u v (present_states present u) (present_states present v) 0
+    → row ≡ get_or rows u 0 → (v < 64 → has w ≡ put (has row) v b) → after ≡ set rows u w → length rows ≡ 64
+    → Written present (row_marks rows) (row_marks after) u v b
+written_back {present = present} {u = u} {v = v} {b = b} rows after w passed read bits e long =
+    let clear = passed_clear present u v passed in
     let low : u < length rows = omega (arith, low_left u v clear) in
     record {
       clear = clear;
       marks = ap row_marks e ∙ marks_set rows u v w b low (bits (low_right u v clear) ∙ ap (λ (n : ℕ). put (has n) v b) read);
-      kept = same;
     }
 
-module _ {present still : ℕ} {rows after : List ℕ} {u v : ℕ} where
-  written_irreflexive : {b : Bool} → Written present still rows after u v b → Irreflexive rows → Irreflexive after
-  written_irreflexive {b = b} w free x = ap (λ f. f x x) w.marks ∙ put_irreflexive (row_marks rows) u v b w.clear.apart free x
-
-  -- What a bit sheet promises of its rows holds of them then:
-  -- the one new mark leads from a standing record to another.
-  pub written_keeps : {b : Bool} → Written present still rows after u v b → Irreflexive rows → PresentFrom present rows → PresentTo present rows
-      → Promises still after
-  written_keeps {b = b} w free from to = record {
-    irreflexive = written_irreflexive w free;
-    from = λ x y h. ap (λ (n : ℕ). has n x) w.kept
-        ∙ put_keeps (row_marks rows) u v b (λ p q. has present p ≡ true) (row_stands (has present u) w.clear.left) from x y (sym (ap (λ f. f x y) w.marks) ∙ h);
-    to = λ x y h. ap (λ (n : ℕ). has n y) w.kept
-        ∙ put_keeps (row_marks rows) u v b (λ p q. has present q ≡ true) (row_stands (has present v) w.clear.right) to x y (sym (ap (λ f. f x y) w.marks) ∙ h);
-  }
-
-  written_pairs : {b : Bool} → Written present still rows after u v b → pairs (row_marks after) + bit (row_marks rows u v) ≡ pairs (row_marks rows) + bit b
+module _ {present u v : ℕ} (rows after : List ℕ) where
+  written_pairs : {b : Bool} → Written present (row_marks rows) (row_marks after) u v b
+      → pairs (row_marks after) + bit (row_marks rows u v) ≡ pairs (row_marks rows) + bit b
   written_pairs {b = b} w =
       ap (λ m. pairs m + bit (row_marks rows u v)) w.marks ∙ pairs_put (row_marks rows) u v b (low_left u v w.clear) (low_right u v w.clear)
 
-  written_meaning : {b : Bool} → Written present still rows after u v b → (h : ℕ) → pairs (row_marks after) ≡ h
-      → rows_meaning still after ≡ record { states = row_states present; marks = put_mark (row_marks rows) u v b; held = h; capacity = 4032 }
-  written_meaning w h e = λ i. record { states = row_states (w.kept i); marks = w.marks i; held = e i; capacity = 4032 }
-
   -- Marking an unmarked pair is taken: there was room for it,
   -- since with it there are one pair more, and still at most 4,032.
-  pub mark_taken : Written present still rows after u v true → Irreflexive rows → row_marks rows u v ≡ false
-      → Called (mark_check (rows_meaning present rows) u v) (rows_meaning present rows) (marked (rows_meaning present rows) u v) (rows_meaning still after) (Ok tt)
-  mark_taken w free bare =
+  pub row_marked : Written present (row_marks rows) (row_marks after) u v true → Irreflexive (row_marks rows) → row_marks rows u v ≡ false
+      → Called (mark_check (rows_meaning present rows) u v) (rows_meaning present rows) (marked (rows_meaning present rows) u v) (rows_meaning present after) (Ok tt)
+  row_marked w free bare =
       let more : pairs (row_marks after) ≡ pairs (row_marks rows) + 1 = omega (arith, written_pairs w, ap bit bare) in
-      let room : pairs (row_marks after) ≤ 4032 = pairs_room (row_marks after) (written_irreflexive w free) in
-      let full : eqb (pairs (row_marks rows)) 4032 ≡ false = ne_eqb (pairs (row_marks rows)) 4032 (λ e. omega arith) in
-      call_taken (Ok tt) refl (pair_open u v (row_states present u) (row_states present v) _ w.clear ∙ simp (bare, full)) (written_meaning w _ more)
+      let still : Irreflexive (row_marks after) = λ x. ap (λ f. f x x) w.marks ∙ put_irreflexive (row_marks rows) u v true w.clear.apart free x in
+      mark_taken w bare (λ full. omega (arith, pairs_room (row_marks after) still)) more
 
   -- striking a marked pair is taken, and leaves one pair less
-  pub strike_taken : Written present still rows after u v false → row_marks rows u v ≡ true
-      → Called (strike_check (rows_meaning present rows) u v) (rows_meaning present rows) (struck (rows_meaning present rows) u v) (rows_meaning still after) (Ok tt)
-  strike_taken w there =
-      let less : pairs (row_marks after) ≡ pairs (row_marks rows) - 1 = omega (arith, written_pairs w, ap bit there) in
-      call_taken (Ok tt) refl (pair_open u v (row_states present u) (row_states present v) _ w.clear ∙ simp there) (written_meaning w _ less)
+  pub row_struck : Written present (row_marks rows) (row_marks after) u v false → row_marks rows u v ≡ true
+      → Called (strike_check (rows_meaning present rows) u v) (rows_meaning present rows) (struck (rows_meaning present rows) u v) (rows_meaning present after) (Ok tt)
+  row_struck w there = strike_taken w there (omega (arith, written_pairs w, ap bit there))

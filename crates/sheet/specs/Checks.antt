@@ -4,13 +4,12 @@ use Rattle.sheet.specs.declared.state.State.{State}
 use Rattle.sheet.specs.States.{is_absent, is_aside, is_standing}
 use Rattle.sheet.specs.Meanings.{Meaning}
 
--- 2, 6, 5
-abbrev pub enter_check : Meaning → ℕ → ℕ
-enter_check m u = cond (nat_lt 63 u) 2 (cond (is_standing (m.states u)) 6 (cond (is_aside (m.states u)) 5 0))
-
--- the same on a number u whose state is a
+-- 2, 6, 5 on a number u whose state is a
 abbrev pub entry_check : ℕ → State → ℕ
 entry_check u a = cond (nat_lt 63 u) 2 (cond (is_standing a) 6 (cond (is_aside a) 5 0))
+
+abbrev pub enter_check : Meaning → ℕ → ℕ
+enter_check m u = entry_check u (m.states u)
 
 -- 2, 3, 4, 5 on two numbers u and v whose states are a and b, and then k
 abbrev pub pair_check : ℕ → ℕ → State → State → ℕ → ℕ

@@ -6,7 +6,7 @@ use Rattle.model.proofs.Digits.{has_beyond}
 use Rattle.sheet.specs.declared.state.State.TheVariants.{Absent, Standing}
 use Rattle.sheet.specs.Meanings.{Lawful, pairs}
 use Rattle.sheet.specs.Kept.{kept_meaning, Irreflexive, PresentFrom, PresentTo}
-use Rattle.sheet.specs.Rows.{row_marks, rows_meaning, Irreflexive as NoneToItself, PresentFrom as RowsFrom, PresentTo as RowsTo}
+use Rattle.sheet.specs.Rows.{row_marks, rows_meaning}
 use Rattle.sheet.specs.Counts.{pairs_room}
 
 -- the laws of a sheet, from what such a make promises of its table
@@ -24,7 +24,8 @@ kept_lawful present m held capacity free from to counted room least most =
     }
 
 -- those of a bit sheet: at most as many pairs as there are places beside the diagonal
-pub rows_lawful : (present : ℕ) (rows : List ℕ) → NoneToItself rows → RowsFrom present rows → RowsTo present rows → Lawful (rows_meaning present rows)
+pub rows_lawful : (present : ℕ) (rows : List ℕ) → Irreflexive (row_marks rows) → PresentFrom present (row_marks rows) → PresentTo present (row_marks rows)
+    → Lawful (rows_meaning present rows)
 rows_lawful present rows free from to =
     let m = row_marks rows in
     kept_lawful present m (pairs m) 4032 free from to (le_refl (pairs m)) (pairs_room m free) (omega arith) (omega arith)

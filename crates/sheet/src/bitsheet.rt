@@ -1,12 +1,12 @@
 // The bit sheet: for each record a row of 64 yes-or-no answers, bit v of row u for the mark from u to v.
-ghost use Rattle.std.specs.Prelude.{◌≡◌, ◌<◌, true, length, replicate, slice_index, slice_set};
-ghost use Rattle.model.specs.Sets.{has, put};
+ghost use Rattle.std.specs.Prelude.{◌≡◌, ◌<◌, length, replicate, slice_index, slice_set};
 ghost use Rattle.sheet.specs.Meanings.{pairs, empty};
-ghost use Rattle.sheet.specs.Rows.{row_states, row_marks, ones_in, rows_meaning, Irreflexive, PresentFrom, PresentTo};
+ghost use Rattle.sheet.specs.Kept.{present_states, Irreflexive, PresentFrom, PresentTo};
+ghost use Rattle.sheet.specs.Rows.{row_marks, ones_in as ones_of, rows_meaning};
 ghost use Rattle.sheet.specs.KeptLaws.{rows_lawful};
 
 use crate::meaning::Sheet;
-use crate::pair::check_pair;
+use crate::present::Present;
 use crate::state::State;
 use model::bits::{has_bit, with_bit, without_bit};
 use model::decline::Decline;
@@ -14,19 +14,14 @@ use model::decline::Decline;
 // The rows alone, with nothing promised of them.
 #[derive(Drop)]
 struct Rows {
-    present: u64,
     rows: [u64; 64],
 }
 
 impl Rows {
     fn empty() -> Rows
-        ensures present { result.present ≡ 0 }
-        ensures rows { result.rows ≡ replicate 64 0 }
+        ensures { result.rows ≡ replicate 64 0 }
     {
-        Rows {
-            present: 0,
-            rows: [0; 64],
-        }
+        Rows { rows: [0; 64] }
     }
 
     fn row(&self, u: u8) -> u64
@@ -40,57 +35,46 @@ impl Rows {
         requires { u < 64 }
         ensures rows { self.new.rows ≡ slice_set self.old.rows u row }
         ensures long { length self.old.rows ≡ 64 }
-        ensures present { self.new.present ≡ self.old.present }
     {
         self.rows[u as usize] = row;
     }
+}
 
-    // u is a record from now on.
-    fn set_present(&mut self, u: u8)
-        requires { u < 64 }
-        ensures present { has self.new.present ≡ put (has self.old.present) u true }
-        ensures rows { self.new.rows ≡ self.old.rows }
-    {
-        self.present = with_bit(self.present, u as usize);
-    }
-
-    // The ones counted over the rows: as many as marked pairs.
-    fn count(&self) -> u16
-        ensures ones { result ≡ ones_in self.now.rows }
-        ensures pairs { result ≡ pairs (row_marks self.now.rows) }
-    {
-        let mut total: u16 = 0;
-        for u in 0..64 {
-            total += self.rows[u].count_ones() as u16;
-        }
-        total
-    }
+// The ones counted over the rows: as many as marked pairs.
+fn ones_in(rows: &[u64; 64]) -> u16
+    ensures ones { result ≡ ones_of rows.now }
+    ensures pairs { result ≡ pairs (row_marks rows.now) }
+{
+    rows.iter().map(|row| row.count_ones() as u16).sum()
 }
 
 #[derive(Drop)]
 pub struct BitSheet {
+    present: Present,
     table: Rows,
     // no yes of a record to itself
-    ghost irreflexive: { Irreflexive table.rows },
+    ghost irreflexive: { Irreflexive (row_marks table.rows) },
     // nor of an absent record
-    ghost from: { PresentFrom table.present table.rows },
+    ghost from: { PresentFrom present.set (row_marks table.rows) },
     // nor to one
-    ghost to: { PresentTo table.present table.rows },
+    ghost to: { PresentTo present.set (row_marks table.rows) },
 }
 
 impl BitSheet {
     // A sheet on which every number is absent.
+    #[tactic(auto, using(crate::proofs::Tables::zeros_at, crate::proofs::Tables::zeros_empty))]
     pub fn new() -> BitSheet
-        ensures { rows_meaning result.table.present result.table.rows ≡ empty 4032 }
+        ensures { rows_meaning result.present.set result.table.rows ≡ empty 4032 }
     {
         BitSheet {
+            present: Present::none(),
             table: Rows::empty(),
         }
     }
 }
 
 impl Sheet for BitSheet {
-    ghost states = { λ s. row_states s.table.present };
+    ghost states = { λ s. present_states s.present.set };
 
     ghost marks = { λ s. row_marks s.table.rows };
 
@@ -98,14 +82,10 @@ impl Sheet for BitSheet {
 
     ghost capacity = { λ _. 4032 };
 
-    ghost lawful = { λ s. rows_lawful s.table.present s.table.rows s.irreflexive s.from s.to };
+    ghost lawful = { λ s. rows_lawful s.present.set s.table.rows s.irreflexive s.from s.to };
 
     fn state(&self, u: u8) -> State {
-        if has_bit(self.table.present, u as usize) {
-            State::Standing
-        } else {
-            State::Absent
-        }
+        self.present.state(u)
     }
 
     fn marked(&self, u: u8, v: u8) -> bool {
@@ -113,26 +93,20 @@ impl Sheet for BitSheet {
     }
 
     fn held(&self) -> u16 {
-        self.table.count()
+        ones_in(&self.table.rows)
     }
 
     fn capacity(&self) -> u16 {
         4032
     }
 
+    #[tactic(auto, using(crate::proofs::Keeping::enter_called))]
     fn enter(&mut self, u: u8) -> Result<(), Decline> {
-        if u > 63 {
-            return Err(Decline::NumberTooHigh);
-        }
-        if has_bit(self.table.present, u as usize) {
-            return Err(Decline::AlreadyStands);
-        }
-        self.table.set_present(u);
-        Ok(())
+        self.present.enter(u)
     }
 
     fn mark(&mut self, u: u8, v: u8) -> Result<(), Decline> {
-        check_pair(u, v, self.state(u), self.state(v))?;
+        self.present.check_pair(u, v)?;
         let row = self.table.row(u);
         if has_bit(row, v as usize) {
             return Err(Decline::AlreadyMarked);
@@ -143,7 +117,7 @@ impl Sheet for BitSheet {
     }
 
     fn strike(&mut self, u: u8, v: u8) -> Result<(), Decline> {
-        check_pair(u, v, self.state(u), self.state(v))?;
+        self.present.check_pair(u, v)?;
         let row = self.table.row(u);
         if !has_bit(row, v as usize) {
             return Err(Decline::NotMarked);

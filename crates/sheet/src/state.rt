@@ -2,7 +2,7 @@
 ghost use Rattle.std.specs.Prelude.{◌≡◌};
 ghost use Rattle.sheet.specs.States.{is_absent, is_aside, is_standing};
 
-#[derive(Clone, Copy)]
+#[derive(Clone, Copy, Debug, PartialEq, Eq)]
 pub enum State {
     // never entered
     Absent,
@@ -16,27 +16,18 @@ impl State {
     pub fn stands(self) -> bool
         ensures { result ≡ is_standing self }
     {
-        match self {
-            State::Standing => true,
-            State::Absent | State::Aside => false,
-        }
+        matches!(self, State::Standing)
     }
 
     pub fn absent(self) -> bool
         ensures { result ≡ is_absent self }
     {
-        match self {
-            State::Absent => true,
-            State::Standing | State::Aside => false,
-        }
+        matches!(self, State::Absent)
     }
 
     pub fn aside(self) -> bool
         ensures { result ≡ is_aside self }
     {
-        match self {
-            State::Aside => true,
-            State::Absent | State::Standing => false,
-        }
+        matches!(self, State::Aside)
     }
 }

@@ -1,7 +1,8 @@
 // What no script can show: memory that is too small, and a scale of one's own making.
 use archive::answer::Answer;
 use grading::grade::grade;
-use grading::kinds::loose;
+use grading::kinds::graded;
+use grading::memory::Memory;
 use model::thresholds::Thresholds;
 use scale::pair::Pair;
 use scale::scale::Scale;
@@ -28,18 +29,14 @@ fn a_short_ring_is_declined(rt: HostRuntime) {
     let mut values = [none; 4160];
     let mut bytes = [9; 4160];
     let sheet = one_mark();
-    let r = loose(
-        &sheet,
-        Thresholds { t1: 1, t2: 0 },
-        &mut grades,
-        &mut ring,
-        &mut values,
-        &mut bytes,
-    );
-    match r {
-        Ok(()) => assert!(rt; false),
-        Err(d) => assert_eq!(rt; d.number(), 1),
-    }
+    let mut memory = Memory {
+        grades: &mut grades,
+        ring: &mut ring,
+        values: &mut values,
+        bytes: &mut bytes,
+    };
+    let r = graded(&sheet, Thresholds { t1: 1, t2: 0 }, &mut memory);
+    assert_eq!(rt; r.err().map(|d| d.number()), Some(1));
     assert_eq!(rt; grades[0].value, 7);
 }
 
@@ -55,14 +52,13 @@ fn any_pair_is_a_scale(rt: HostRuntime) {
     let mut values = [none; 4161];
     let mut bytes = [9; 4161];
     let sheet = one_mark();
-    let r = grade(
-        &sheet,
-        Thresholds { t1: 5, t2: 0 },
-        &mut grades,
-        &mut ring,
-        &mut values,
-        &mut bytes,
-    );
+    let mut memory = Memory {
+        grades: &mut grades,
+        ring: &mut ring,
+        values: &mut values,
+        bytes: &mut bytes,
+    };
+    let r = grade(&sheet, Thresholds { t1: 5, t2: 0 }, &mut memory);
     assert!(rt; r.is_ok());
     assert_eq!(rt; grades[0].first.value, -1);
     assert_eq!(rt; grades[0].second.value, -5);
@@ -74,7 +70,7 @@ fn any_pair_is_a_scale(rt: HostRuntime) {
 #[test]
 fn a_line_needs_2048_bytes(rt: HostRuntime) {
     let mut out = [9; 2048];
-    assert!(rt; print(&Answer::Taken, &mut out[0..2047]).is_err());
+    assert!(rt; print(&Answer::Taken, &mut out[..2047]).is_err());
     assert_eq!(rt; out[0], 9);
     assert_eq!(rt; print(&Answer::Taken, &mut out).ok(), Some(3));
     assert_eq!(rt; out[2], 10);

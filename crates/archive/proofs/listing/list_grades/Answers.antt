@@ -1,26 +1,44 @@
-use Rattle.std.proofs.Common.{◌≡◌, ◌<◌, Bool, ◌++◌, length, get_or, sym, ap, ◌∙◌, ap₂, arith}
-use Rattle.std.proofs.lemmas.List.{get_or_read}
+use Rattle.std.proofs.Common.{◌≡◌, ℕ, ◌+◌, ◌<◌, Bool, true, false, List, ◌++◌, length, take, get_or, vec_items, Vec, sym, ap, ◌∙◌, ap₂, append-nil, arith, length-take-le}
+use Rattle.std.proofs.lemmas.List.{get_or-take, get_or_read}
+use Rattle.std.specs.declared.alloc.Global.{Global}
+use Rattle.model.specs.Views.{View}
 use Rattle.sheet.specs.States.{is_standing}
 use Rattle.sheet.specs.Views.{view_of}
+use Rattle.archive.specs.declared.answer.Graded.{Graded}
 use Rattle.archive.specs.Listed.{entry, listed}
 use Rattle.archive.proofs.Entries.{listed_more}
 use Rattle.archive.proofs.listing.list_grades.Goals as goal
+use Rattle.archive.proofs.listing.list_grades.Goals.{then-stands+in_ok-push, else-stands}
 
 pub loop-u-init : goal.loop-u-init
 unfolding listed
 loop-u-init g c = c.new-list.ensures.items
 
+-- the record u comes to the list if it stands
+one_more : {V : Type 0} (w : View) (g : ℕ → V) (u : ℕ) (b : Bool) (before after : List (Graded V)) → b ≡ w.stands u → before ≡ listed w g u → after ≡ before ++ entry b u (g u) → after ≡ listed w g (u + 1)
+one_more w g u b before after is so_far more = more ∙ ap₂ (λ xs c. xs ++ entry c u (g u)) so_far is ∙ sym (listed_more w g u)
+
 pub loop-u-preserved : goal.loop-u-preserved
 loop-u-preserved g c =
+    let w = view_of g.S.Sheet c.args.sheet.now in
     let none = g.V.Scale.nothing in
-    let within : c.loop-u.u < length c.args.grades.now = omega arith in
+    let grade : ℕ → g.row.V.Denot = λ u. get_or c.args.grades.now u none in
+    let long : length (take 64 c.args.grades.now) ≡ 64 = length-take-le 64 c.args.grades.now c.requires in
+    let within : c.loop-u.u < 64 = omega arith in
+    let value = get_or_read (take 64 c.args.grades.now) c.loop-u.u c.grade-item.result c.loop-u-test.true c.grade-item.is none ∙ get_or-take 64 c.args.grades.now c.loop-u.u none within in
     let stands : c.stands.result ≡ is_standing (g.S.Sheet.states c.args.sheet.now c.loop-u.u) = c.stands.ensures ∙ ap is_standing c.state.ensures in
-    let value : c.index-grades-u.result ≡ get_or c.args.grades.now c.loop-u.u none = get_or_read c.args.grades.now c.loop-u.u c.index-grades-u.result within c.index-grades-u.is none in
-    c.in_ok-push_if.ensures
-    ∙ ap₂ ◌++◌ c.loop-u.invariant (ap₂ (λ (b : Bool) z. entry b c.loop-u.u z) stands value)
-    ∙ sym (listed_more (view_of g.S.Sheet c.args.sheet.now) (λ u. get_or c.args.grades.now u none) c.loop-u.u)
+    let before = vec_items c.loop-u.list in
+    let after = vec_items c.if-stands.list in
+    elim c.if-stands.branch [
+      | then-stands+in_ok-push b ↦ one_more w grade c.loop-u.u true before after (sym b.if-stands.true ∙ stands) c.loop-u.invariant
+          (ap (λ (v : Vec (Graded g.row.V.Denot) Global). vec_items v) b.list-is ∙ b.in_ok-push.ensures.items
+          ∙ ap (λ (z : g.row.V.Denot). before ++ entry true c.loop-u.u z) value)
+      | else-stands b ↦ one_more w grade c.loop-u.u false before after (sym b.if-stands.false ∙ stands) c.loop-u.invariant
+          (ap (λ (v : Vec (Graded g.row.V.Denot) Global). vec_items v) b.list-is ∙ sym (append-nil before))
+    ]
 
 pub returns : goal.returns
 returns g c =
+    let long : length (take 64 c.args.grades.now) ≡ 64 = length-take-le 64 c.args.grades.now c.requires in
     let e : c.loop-u.u ≡ 64 = omega arith in
     c.loop-u.invariant ∙ ap (listed (view_of g.S.Sheet c.args.sheet.now) (λ u. get_or c.args.grades.now u g.V.Scale.nothing)) e

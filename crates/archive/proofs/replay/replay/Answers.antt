@@ -1,4 +1,4 @@
-use Rattle.std.proofs.Common.{ℕ, get_or, take, vec_items, sym, refl, ap, ◌∙◌, subst, arith, take_all}
+use Rattle.std.proofs.Common.{ℕ, get_or, take, vec_items, sym, refl, ap, ◌∙◌, subst, arith}
 use Rattle.sheet.specs.Meanings.{Meaning}
 use Rattle.sheet.specs.Views.{meaning_of}
 use Rattle.archive.specs.declared.call.Call.TheVariants.{Enter}
@@ -31,17 +31,3 @@ loop-call-preserved g c =
           (subst (λ (b : Meaning). Right b call c.in_ok-given.given) inv.0 now.right)
           inv.2,
     )
-
-pub returns : goal.returns
-returns g c =
-    let m = meaning_of g.S.Sheet c.args.sheet in
-    let cs = c.args.calls.now in
-    let inv = c.loop-call.invariant in
-    let done = take_all c.loop-call.call-index cs c.loop-call-test.false in
-    record {
-      meaning = inv.0 ∙ ap (run m) done;
-      answers_right = record {
-        long = sym c.loop-call.answers.ok.0 ∙ omega (arith, inv.1);
-        each = λ k h. inv.2 k (omega arith);
-      };
-    }

@@ -1,7 +1,5 @@
-use Rattle.std.proofs.Common.{◌≡◌, ℕ, ◌≤◌, get_or}
 use Rattle.grading.specs.Rings.{Placed}
 use Rattle.grading.proofs.descent.write_turned.Given as goal
 
 abbrev pub invariant-loop-i : goal.invariant-loop-i
-invariant-loop-i l = Placed l.walk l.high l.len l.turn l.i l.ring
-    × ((k : ℕ) → l.len ≤ k → get_or l.ring k 0 ≡ get_or l.initial.ring k 0)
+invariant-loop-i l = Placed l.walk l.high l.len l.turn l.i l.x-items

@@ -1,17 +1,19 @@
-use Rattle.std.proofs.Common.{◌≤◌, length, sym, subst, arith}
+use Rattle.std.proofs.Common.{ℕ, ◌≤◌, List, ◌++◌, length, drop, sym, ap, subst, arith}
 use Rattle.sheet.specs.Views.{view_of}
-use Rattle.grading.specs.Outcomes.{memory, suffices}
+use Rattle.grading.specs.Outcomes.{memory, brought, suffices}
 use Rattle.grading.specs.Ratios.{RatioFound}
 use Rattle.grading.proofs.Checked.{when_true}
 use Rattle.grading.proofs.Climbing.{answered}
 use Rattle.grading.proofs.ratio.least_ratio.Goals as goal
 
-pub returns : goal.returns
-returns g c =
+pub returns-clause-found : goal.returns-clause-found
+returns-clause-found g c =
     let w = view_of g.S.Sheet c.args.sheet.now in
-    let before = memory c.args.grades.now c.args.ring.now c.args.values.now c.args.bytes.now in
-    let after = memory c.climb-best.new.grades c.copy_front.new.to c.climb-best.new.values c.climb-best.new.bytes in
-    let room : 64 ≤ length c.climb-best.new.ring = omega arith in
+    let before = brought c.args.memory.now in
+    let climbed = c.climb_beside-best in
+    let rest = drop climbed.result.ring before.ring in
+    let after = memory climbed.new.grades (c.copy_from_slice.new.self ++ rest) climbed.new.values climbed.new.bytes in
+    let room : 64 ≤ length climbed.new.ring = omega arith in
     subst (RatioFound w before after) (sym c.answer.ensures)
     (when_true (suffices before) _ _ (sym c.if-not-is_enough.ensures)
-    (answered w before after c.climb-best.new.ring c.climb-best.result room c.climb-best.ensures c.copy_front.ensures))
+    (answered w before after climbed.new.ring climbed.result room climbed.ensures (ap (λ (xs : List ℕ). xs ++ rest) c.copy_from_slice.ensures.after)))

@@ -1,32 +1,24 @@
-use Rattle.std.proofs.Common.{◌+◌, ◌<◌, arith}
+use Rattle.std.proofs.Common.{◌+◌, arith, length-set}
 use Rattle.paths.proofs.Loops.{loop_made}
 use Rattle.grading.specs.Problems.{problem_steps}
 use Rattle.grading.proofs.Rounds.{running_none, running_ready, running_more, fallen_made, settled_made}
 use Rattle.grading.proofs.settle.settle.Goals as goal
 
 pub loop-k-init : goal.loop-k-init
-loop-k-init g c = running_none g.V.Scale g.met.V.Scale.lawful c.args.problem.now c.clear.new.row c.args.next.now (λ u l. c.clear.ensures u (omega arith))
+loop-k-init g c = (omega arith, running_none g.V.Scale g.met.V.Scale.lawful c.args.problem.now c.clear.new.row c.args.next.now (λ u l. c.clear.ensures u (omega arith)))
 
 pub relax_round-requires : goal.relax_round-requires
 relax_round-requires g c =
-    (omega arith, omega arith, running_ready g.V.Scale g.met.V.Scale.lawful c.args.problem.now c.loop-k.k c.loop-k.old c.loop-k.next (omega arith) c.requires.4 c.loop-k.invariant)
+    (omega arith, running_ready g.V.Scale g.met.V.Scale.lawful c.args.problem.now c.loop-k.k c.loop-k.old c.loop-k.next (omega arith) c.requires.2 c.loop-k.invariant.1)
 
 pub walk_down-requires : goal.walk_down-requires
-walk_down-requires g c = (
-  omega arith,
-  omega arith,
-  fallen_made g.V.Scale g.met.V.Scale.lawful c.args.problem.now c.loop-k.k c.loop-k.old c.relax_round.new.to c.loop-k.next c.relax_round.new.next c.loop-k.invariant c.relax_round.ensures
-      c.in-Some.u (omega arith) (omega arith) c.in-Some.ensures,
-)
+walk_down-requires g c =
+    fallen_made g.V.Scale g.met.V.Scale.lawful c.args.problem.now c.loop-k.k c.loop-k.old c.relax_round.new.to c.loop-k.next c.relax_round.new.next c.loop-k.invariant.1 c.relax_round.ensures
+    c.in-Some.u c.loop-k.invariant.0 c.in-Some.ensures
 
-pub find_repeat-requires : goal.find_repeat-requires
-find_repeat-requires g c =
-    let early : c.loop-k.k < 64 = c.loop-k.invariant.early in
-    (omega arith, omega arith, λ j l. c.walk_down.ensures.nodes j (omega arith) l)
-
-pub returns-in-None : goal.returns-in-None
-returns-in-None g c =
-    settled_made g.V.Scale g.met.V.Scale.lawful c.args.problem.now c.loop-k.k c.loop-k.old c.relax_round.new.to c.loop-k.next c.relax_round.new.next c.loop-k.invariant c.relax_round.ensures c.in-None.ensures
+pub returns-in_default : goal.returns-in_default
+returns-in_default g c =
+    settled_made g.V.Scale g.met.V.Scale.lawful c.args.problem.now c.loop-k.k c.loop-k.old c.relax_round.new.to c.loop-k.next c.relax_round.new.next c.loop-k.invariant.1 c.relax_round.ensures c.in_default.ensures
 
 pub returns-in-Some-find_repeat : goal.returns-in-Some-find_repeat
 returns-in-Some-find_repeat g c =
@@ -34,11 +26,8 @@ returns-in-Some-find_repeat g c =
     loop_made g.V.Scale g.met.V.Scale.lawful (problem_steps c.args.problem.now) c.walk_down.new.walk (c.loop-k.k + 1) c.in-Some-find_repeat.span.low c.in-Some-find_repeat.span.high c.walk_down.ensures found.0 found.1
 
 pub loop-k-preserved : goal.loop-k-preserved
-loop-k-preserved g c =
-    running_more g.V.Scale g.met.V.Scale.lawful c.args.problem.now c.loop-k.k c.loop-k.old c.relax_round.new.to c.loop-k.next c.relax_round.new.next c.loop-k.invariant c.relax_round.ensures
-    c.copy_from_slice.new.self c.copy_from_slice.ensures.after c.in_default.ensures (omega arith) (omega arith)
-
-pub unreachable-requires : goal.unreachable-requires
-unreachable-requires g c =
-    let early : c.loop-k.k < 64 = c.loop-k.invariant.early in
-    omega arith
+loop-k-preserved g c = (
+  simp length-set c.loop-k.invariant.0,
+  running_more g.V.Scale g.met.V.Scale.lawful c.args.problem.now c.loop-k.k c.loop-k.old c.relax_round.new.to c.loop-k.next c.relax_round.new.next c.loop-k.invariant.1 c.relax_round.ensures
+      c.copy_from_slice.new.self c.copy_from_slice.ensures.after c.in_default-find_repeat.ensures c.loop-k.invariant.0,
+)

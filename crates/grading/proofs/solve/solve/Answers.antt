@@ -3,34 +3,38 @@ use Rattle.paths.specs.Bests.{Forbids}
 use Rattle.grading.proofs.Spelling.{enough_parts, best_made, others_kept, forbids_shown}
 use Rattle.grading.proofs.solve.solve.Goals as goal
 
+pub copy_values-requires : goal.copy_values-requires
+copy_values-requires g c =
+    let room : 64 ≤ length c.args.grades.now = (enough_parts (length c.args.grades.now) (length c.args.ring.now) (length c.args.values.now) (length c.args.bytes.now) c.requires.room).grades_64 in
+    (omega arith, room)
+
 pub write_ring-requires : goal.write_ring-requires
 write_ring-requires g c =
-    let loop = c.in-Some.ensures in
-    let room : 64 ≤ length c.args.ring.now = (enough_parts (length c.args.grades.now) (length c.args.ring.now) (length c.args.values.now) (length c.args.bytes.now) c.requires.0).ring_64 in
-    (record { long = omega arith; order = loop.again.order; within = loop.again.within }, room)
+    let room : 64 ≤ length c.args.ring.now = (enough_parts (length c.args.grades.now) (length c.args.ring.now) (length c.args.values.now) (length c.args.bytes.now) c.requires.room).ring_64 in
+    room
 
-pub returns-in-None : goal.returns-in-None
-returns-in-None g c w t spells =
+pub returns-in-Ok : goal.returns-in-Ok
+returns-in-Ok g c w t spells =
     let s = g.V.Scale in
     let laws = g.met.V.Scale.lawful in
     let p = c.args.problem.now in
     record {
-      grades = best_made s laws w t p spells c.settle.new.old c.args.grades.now c.copy_values.new.to c.in-None.ensures c.copy_values.ensures;
-      others = others_kept s laws w t p spells c.settle.new.old c.args.grades.now c.copy_values.new.to c.in-None.ensures c.copy_values.ensures;
+      grades = best_made s laws w t p spells c.settle.new.old c.args.grades.now c.copy_values.new.to c.in-Ok.ensures c.copy_values.ensures;
+      others = others_kept s laws w t p spells c.settle.new.old c.args.grades.now c.copy_values.new.to c.in-Ok.ensures c.copy_values.ensures;
       ring = refl;
     }
 
-pub returns-in-Some : goal.returns-in-Some
-returns-in-Some g c w t spells =
+pub returns-in-Err : goal.returns-in-Err
+returns-in-Err g c w t spells =
     let s = g.V.Scale in
     let laws = g.met.V.Scale.lawful in
     let p = c.args.problem.now in
-    let loop = c.in-Some.ensures in
-    let low = c.in-Some.span.low in
-    let high = c.in-Some.span.high in
-    let top : c.in-Some.span.high ≤ 64 = loop.again.within in
-    let long : c.write_ring.result ≡ c.in-Some.span.high - c.in-Some.span.low = c.write_ring.ensures.long in
-    let room : 64 ≤ length c.write_ring.new.ring = omega (arith, (enough_parts (length c.args.grades.now) (length c.args.ring.now) (length c.args.values.now) (length c.args.bytes.now) c.requires.0).ring_64) in
+    let loop = c.in-Err.ensures in
+    let low = c.in-Err.span.low in
+    let high = c.in-Err.span.high in
+    let top : c.in-Err.span.high ≤ 64 = loop.again.within in
+    let long : c.write_ring.result ≡ c.in-Err.span.high - c.in-Err.span.low = c.write_ring.ensures.long in
+    let room : 64 ≤ length c.write_ring.new.ring = omega (arith, (enough_parts (length c.args.grades.now) (length c.args.ring.now) (length c.args.values.now) (length c.args.bytes.now) c.requires.room).ring_64) in
     record {
       short = omega arith;
       ring = subst (λ (k : ℕ). Forbids s w t (take k c.write_ring.new.ring)) (sym long) (forbids_shown s laws w t p spells c.settle.new.walk c.write_ring.new.ring low high loop c.write_ring.ensures.written room);

@@ -2,10 +2,7 @@ use Rattle.std.proofs.Common.{sym, ◌∙◌}
 use Rattle.listsheet.specs.Listed.{pairs_listed}
 use Rattle.listsheet.proofs.ListSheet.count.Goals as goal
 
-pub returns : goal.returns
-returns c =
+pub returns-clause-pairs : goal.returns-clause-pairs
+returns-clause-pairs c =
     let s = c.args.self.now in
-    record {
-      used = c.len.ensures;
-      pairs = c.len.ensures ∙ sym (pairs_listed s.table.places s.present.set s.table.used s.once s.from s.to);
-    }
+    c.len.ensures ∙ sym (pairs_listed s.present.set s.table.marks.items s.once s.from s.to)

@@ -1,4 +1,4 @@
-use Rattle.std.proofs.Common.{◌≡◌, ℕ, length, refl, ap, ◌∙◌, arith}
+use Rattle.std.proofs.Common.{refl, arith}
 use Rattle.sheet.specs.Views.{view_of}
 use Rattle.release.specs.Sections.{marks_below}
 use Rattle.release.proofs.Listing.{marks_count}
@@ -14,8 +14,3 @@ loop-u-preserved g c =
       omega (arith, c.count_marks_from.ensures.counted, c.loop-u.invariant.0, marks_count w c.loop-u.u),
       omega (arith, c.count_marks_from.ensures.few, c.loop-u.invariant.1),
     )
-
-pub returns : goal.returns
-returns g c =
-    let e : c.loop-u.u ≡ 64 = omega arith in
-    c.loop-u.invariant.0 ∙ ap (λ (n : ℕ). length (marks_below (view_of g.S.Sheet c.args.sheet.now) n)) e

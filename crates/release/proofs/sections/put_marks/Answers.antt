@@ -1,10 +1,9 @@
-use Rattle.std.proofs.Common.{◌≡◌, ℕ, subst, arith}
+use Rattle.std.proofs.Common.{arith}
 use Rattle.std.specs.List.{flat_map}
 use Rattle.form.specs.Laid.{of_pair}
 use Rattle.release.specs.Sections.{marks_below}
 use Rattle.release.proofs.Listing.{marks_more}
 use Rattle.sheet.specs.Views.{view_of}
-use Rattle.release.specs.Drafts.{Adds}
 use Rattle.release.proofs.Adding.{adds_none, adds_more}
 use Rattle.release.proofs.sections.put_marks.Goals as goal
 
@@ -18,12 +17,3 @@ loop-u-preserved g c =
       adds_more (λ n. flat_map of_pair (marks_below w n)) c.loop-u.u (marks_more w c.loop-u.u) c.loop-u.invariant.0 c.put_marks_from.ensures.adds,
       omega (arith, c.loop-u.invariant.1, c.put_marks_from.ensures.within),
     )
-
-pub returns : goal.returns
-returns g c =
-    let w = view_of g.S.Sheet c.args.sheet.now in
-    let e : c.loop-u.u ≡ 64 = omega arith in
-    record {
-      adds = subst (λ (n : ℕ). Adds c.args.draft.now (flat_map of_pair (marks_below w n)) c.loop-u.draft) e c.loop-u.invariant.0;
-      within = omega (arith, c.loop-u.invariant.1);
-    }

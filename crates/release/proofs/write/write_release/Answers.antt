@@ -1,28 +1,21 @@
 use Rattle.std.proofs.Common.{ℕ, List, subst}
+use Rattle.std.proofs.lemmas.Result.{err_from_is_err_and}
 use Rattle.sheet.specs.Views.{view_of}
-use Rattle.grading.specs.Outcomes.{memory}
+use Rattle.grading.specs.Outcomes.{brought}
 use Rattle.release.specs.Writing.{Puts}
 use Rattle.release.proofs.Releasing.{short, released, declined}
 use Rattle.release.proofs.write.write_release.Goals as goal
 
-pub lay_out-requires-clause-short : goal.lay_out-requires-clause-short
-lay_out-requires-clause-short g c =
-    short (view_of g.S.Sheet c.args.sheet.now)
-    (memory c.args.grades.now c.args.ring.now c.args.values.now c.args.bytes.now)
-    (memory c.least_ratio.new.grades c.least_ratio.new.ring c.least_ratio.new.values c.least_ratio.new.bytes)
-    c.in-Ok.least c.in-Ok.ensures
+pub returns-in_err-least-clause-released : goal.returns-in_err-least-clause-released
+returns-in_err-least-clause-released g c =
+    let p = err_from_is_err_and c.from_residual.result c.from_residual.ensures.1 in
+    rw (p.1, p.2) (declined (view_of g.S.Sheet c.args.sheet.now) (brought c.args.memory.now) (brought c.least_ratio.new.memory) c.in_err-least.field-0.0 c.args.out.now c.in_err-least.ensures.found)
 
-pub returns-in-Ok : goal.returns-in-Ok
-returns-in-Ok g c =
-    let w = view_of g.S.Sheet c.args.sheet.now in
-    let after = memory c.least_ratio.new.grades c.least_ratio.new.ring c.least_ratio.new.values c.least_ratio.new.bytes in
-    released w (memory c.args.grades.now c.args.ring.now c.args.values.now c.args.bytes.now) after
-    c.in-Ok.least c.in-Ok.ensures
-    (subst (λ (xs : List ℕ). Puts xs c.args.out.now c.put_out.new.out c.put_out.result) c.lay_out.ensures.bytes c.put_out.ensures)
+pub draft_of-requires-clause-short : goal.draft_of-requires-clause-short
+draft_of-requires-clause-short g c =
+    short (view_of g.S.Sheet c.args.sheet.now) (brought c.args.memory.now) (brought c.least_ratio.new.memory) c.in_ok-least.least c.in_ok-least.ensures.found
 
-pub returns-in-Err : goal.returns-in-Err
-returns-in-Err g c =
-    declined (view_of g.S.Sheet c.args.sheet.now)
-    (memory c.args.grades.now c.args.ring.now c.args.values.now c.args.bytes.now)
-    (memory c.least_ratio.new.grades c.least_ratio.new.ring c.least_ratio.new.values c.least_ratio.new.bytes)
-    c.in-Err.decline c.args.out.now c.in-Err.ensures
+pub returns-clause-released : goal.returns-clause-released
+returns-clause-released g c =
+    released (view_of g.S.Sheet c.args.sheet.now) (brought c.args.memory.now) (brought c.least_ratio.new.memory) c.in_ok-least.least c.in_ok-least.ensures.found
+    (subst (λ (xs : List ℕ). Puts xs c.args.out.now c.put_out.new.out c.put_out.result) c.draft_of.ensures c.put_out.ensures)

@@ -1,27 +1,14 @@
-use Rattle.std.proofs.Common.{ℕ, ◌+◌, List, subst}
-use Rattle.script.specs.Numbers.{Field}
-use Rattle.script.specs.Cuts.{FirstAt}
-use Rattle.script.proofs.Fields.{cut_left, cut_right, joined_cut}
+use Rattle.std.proofs.Common.{ℕ, List, sym, subst, MatchOption}
+use Rattle.script.specs.Numbers.{Field, NoField}
+use Rattle.script.specs.Lines.{Fields, NoFields}
+use Rattle.script.proofs.Fields.{read_both}
 use Rattle.script.proofs.parse.two.Goals as goal
-
-pub returns-in_default : goal.returns-in_default
-returns-in_default c n m f =
-    let bs = c.args.bytes.now in
-    let k = c.find.result in
-    let s = subst (λ (xs : List ℕ). FirstAt 32 xs k) c.split_at.ensures.back c.find.ensures in
-    c.in_default.ensures n (rw c.split_at-2.ensures.front (cut_left bs k n m s f))
-
-pub returns-in_default-one : goal.returns-in_default-one
-returns-in_default-one c n m f =
-    let bs = c.args.bytes.now in
-    let k = c.find.result in
-    let s = subst (λ (xs : List ℕ). FirstAt 32 xs k) c.split_at.ensures.back c.find.ensures in
-    c.in_default-one.ensures m (rw c.split_at-2.ensures.back (cut_right bs k n m s f))
 
 pub returns : goal.returns
 returns c =
     let bs = c.args.bytes.now in
-    let j = 1 + c.find.result in
-    joined_cut bs j c.in-Some.n c.in-Some-one.m
-    (subst (λ (xs : List ℕ). Field xs c.in-Some.n) c.split_at-2.ensures.front c.in-Some.ensures)
-    (subst (λ (xs : List ℕ). Field xs c.in-Some-one.m) c.split_at-2.ensures.back c.in-Some-one.ensures)
+    let k = c.in_ok-last_space.field-0 in
+    subst (λ o. MatchOption o (NoFields 2 bs) (λ p. Fields 2 bs p.0 p.1)) (sym c.zip.ensures)
+    (read_both bs k c.one.result c.one-2.result c.in_ok-last_space.ensures
+    (subst (λ (ds : List ℕ). MatchOption c.one.result (NoField ds) (Field ds)) c.split_at.ensures.front c.one.ensures)
+    (subst (λ (ds : List ℕ). MatchOption c.one-2.result (NoField ds) (Field ds)) c.split_at.ensures.back c.one-2.ensures))

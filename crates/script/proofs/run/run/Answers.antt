@@ -1,21 +1,26 @@
-use Rattle.std.proofs.Common.{◌≡◌, ℕ, ◌<◌, List, length, take, vec_items, sym, ◌∙◌, subst, arith}
+use Rattle.std.proofs.Common.{◌≡◌, ℕ, suc, ◌-◌, List, length, take, drop, vec_items, sym, ◌∙◌, subst, arith, take_all, length-drop}
 use Rattle.std.proofs.lemmas.Result.{IfOk-weaker}
-use Rattle.script.specs.Makes.{make_name, new_sheet}
+use Rattle.script.specs.Makes.{new_sheet}
 use Rattle.script.specs.Judged.{Opened, Judged, opening, wrong}
-use Rattle.script.proofs.Judging.{past_at}
+use Rattle.script.proofs.FirstLine.{bare_line, after_line}
 use Rattle.script.proofs.run.run.Goals as goal
 
 pub returns-in-None : goal.returns-in-None
 returns-in-None c =
-    let some : 0 < length c.args.script.now = omega arith in
+    let f = c.in-Some.ensures in
+    let line = c.bare.ensures ∙ bare_line c.args.script.now c.in-Some.first.now f in
     IfOk-weaker c.from_slice.result _ (λ v. Judged c.args.script.now (vec_items v))
-    (λ v e. wrong c.find.result some c.find.ensures (λ m h. c.in-None.ensures m (c.split_at.ensures.front ∙ h)) e)
+    (λ v e. wrong f.k f.some f.first (λ m h. c.in-None.ensures m (line ∙ h)) e)
     c.from_slice.ensures.items
 
-pub returns-in-Some : goal.returns-in-Some
-returns-in-Some c =
-    let first : take c.find.result c.args.script.now ≡ make_name c.in-Some.make = sym c.split_at.ensures.front ∙ c.in-Some.ensures in
-    let rest = past_at c.args.script.now c.split_at.result.1.now c.past.result.now c.find.result c.split_at.ensures.back c.past.ensures in
-    IfOk-weaker c.open.result (λ v. Opened (new_sheet c.in-Some.make) c.past.result.now (vec_items v)) (λ v. Judged c.args.script.now (vec_items v))
-    (λ v o. opening c.find.result c.in-Some.make c.find.ensures first (subst (λ (zs : List ℕ). Opened (new_sheet c.in-Some.make) zs (vec_items v)) rest o))
+pub returns-in-Some-make_in : goal.returns-in-Some-make_in
+returns-in-Some-make_in c =
+    let f = c.in-Some.ensures in
+    let make = c.in-Some-make_in.make in
+    let line = sym (c.bare.ensures ∙ bare_line c.args.script.now c.in-Some.first.now f) ∙ c.in-Some-make_in.ensures in
+    let bs = c.args.script.now in
+    let n = length c.in-Some.first.now in
+    let rest : take (length bs - n) (drop n bs) ≡ drop (suc f.k) bs = take_all (length bs - n) (drop n bs) (omega (arith, length-drop n bs)) ∙ after_line bs c.in-Some.first.now f in
+    IfOk-weaker c.open.result _ (λ v. Judged bs (vec_items v))
+    (λ v o. opening f.k make f.first line (subst (λ (zs : List ℕ). Opened (new_sheet make) zs (vec_items v)) rest o))
     c.open.ensures

@@ -1,14 +1,7 @@
-use Rattle.std.proofs.Common.{IfOk, vec_items, sym, subst}
-use Rattle.std.proofs.lemmas.Result.{err_from_is_err_and}
+use Rattle.std.proofs.Common.{vec_items, sym, subst}
 use Rattle.sheet.specs.Views.{meaning_of}
-use Rattle.script.specs.Judged.{Opened}
 use Rattle.script.proofs.Judging.{opened}
 use Rattle.script.proofs.run.run_on.Goals as goal
-
-pub returns-in_err-extend_from_slice : goal.returns-in_err-extend_from_slice
-returns-in_err-extend_from_slice g c =
-    let p = err_from_is_err_and c.from_residual-in_err-extend_from_slice.result c.from_residual-in_err-extend_from_slice.ensures.1 in
-    subst (λ r. IfOk r (λ v. Opened (meaning_of g.S.Sheet c.args.sheet) c.args.script.now (vec_items v))) (sym p.1) tt
 
 pub returns : goal.returns
 returns g c =

@@ -1,4 +1,4 @@
-use Rattle.std.proofs.Common.{Bool, cond, sym}
+use Rattle.std.proofs.Common.{Bool, cond, sym, refl, rules}
 use Rattle.sheet.proofs.Checking.{pair_left, pair_clear}
 use Rattle.layers.specs.Folders.{filed_states}
 use Rattle.layers.specs.FiledIn.{filed_in}
@@ -16,4 +16,4 @@ returns g c =
     let f = filed_in g.S.Sheet c.args.self.now in
     let clear = pair_clear c.args.u c.args.v (filed_states f c.args.u) (filed_states f c.args.v) 0
     (sym c.in_ok-check_here.ensures) in
-    below_called c.strike_below.ensures.own (pair_seen f c.args.u c.args.v (λ (b : Bool). cond b 0 9) clear) c.strike_below.ensures.below
+    below_called refl (pair_seen f c.args.u c.args.v (λ (b : Bool). cond b 0 9) clear) (search rules)

@@ -1,0 +1,36 @@
+// The memory that a caller brings to a grading.
+ghost use Rattle.std.specs.Prelude.{◌≡◌, ◌≤◌, length, take};
+ghost use Rattle.grading.specs.Outcomes.{brought, suffices};
+
+use crate::forbidden::Forbidden;
+
+// 64 places for grades, 64 bytes for a ring, and scratch of 4,160 values and 4,160 bytes. It may be more; what is more is kept.
+// Calls inside ask that each part has its size, by a clause: a type for that would be a second struct of the same four parts. And each
+// call says that the same slices are lent after it, which no invariant can: it speaks of before and after.
+#[derive(Drop)]
+pub struct Memory<'a, V> {
+    pub grades: &'a mut [V],
+    pub ring: &'a mut [u8],
+    pub values: &'a mut [V],
+    pub bytes: &'a mut [u8],
+}
+
+impl<V> Memory<'_, V> {
+    // Whether each part has its size.
+    pub fn is_enough(&self) -> bool
+        ensures { result ≡ suffices (brought self.now) }
+    {
+        self.grades.len() >= 64
+            && self.ring.len() >= 64
+            && self.values.len() >= 4160
+            && self.bytes.len() >= 4160
+    }
+
+    // The ring that was found, in the first ring bytes.
+    pub(crate) fn shown(&self, found: Forbidden) -> &[u8]
+        requires { found.ring ≤ length self.now.ring.now }
+        ensures { result.now ≡ take found.ring self.now.ring.now }
+    {
+        &self.ring[..found.ring as usize]
+    }
+}
