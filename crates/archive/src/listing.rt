@@ -8,6 +8,13 @@ use scale::scale::Scale;
 use sheet::meaning::Sheet;
 use std::alloc::{AllocError, Global};
 
+// Whether u is part of a grading.
+fn stands<S: Sheet>(sheet: &S, u: u8) -> bool
+    ensures { result ≡ (view_of S.Sheet sheet.now).stands u }
+{
+    sheet.state(u).stands()
+}
+
 pub fn list_grades<S: Sheet, V: Scale>(
     heap: Global,
     sheet: &S,
@@ -18,7 +25,7 @@ pub fn list_grades<S: Sheet, V: Scale>(
 {
     let mut list = Vec::new(heap);
     for (u, grade) in grades[..64].iter().enumerate() {
-        if sheet.state(u as u8).stands() {
+        if stands(sheet, u as u8) {
             list.push(Graded {
                 record: u as u8,
                 grade: *grade,

@@ -2,7 +2,6 @@ use Rattle.std.proofs.Common.{◌≡◌, ℕ, ◌+◌, ◌<◌, Bool, true, fals
 use Rattle.std.proofs.lemmas.List.{get_or-take, get_or_read}
 use Rattle.std.specs.declared.alloc.Global.{Global}
 use Rattle.model.specs.Views.{View}
-use Rattle.sheet.specs.States.{is_standing}
 use Rattle.sheet.specs.Views.{view_of}
 use Rattle.archive.specs.declared.answer.Graded.{Graded}
 use Rattle.archive.specs.Listed.{entry, listed}
@@ -26,7 +25,7 @@ loop-u-preserved g c =
     let long : length (take 64 c.args.grades.now) ≡ 64 = length-take-le 64 c.args.grades.now c.requires in
     let within : c.loop-u.u < 64 = omega arith in
     let value = get_or_read (take 64 c.args.grades.now) c.loop-u.u c.grade-item.result c.loop-u-test.true c.grade-item.is none ∙ get_or-take 64 c.args.grades.now c.loop-u.u none within in
-    let stands : c.stands.result ≡ is_standing (g.S.Sheet.states c.args.sheet.now c.loop-u.u) = c.stands.ensures ∙ ap is_standing c.state.ensures in
+    let stands : c.stands.result ≡ w.stands c.loop-u.u = c.stands.ensures in
     let before = vec_items c.loop-u.list in
     let after = vec_items c.if-stands.list in
     elim c.if-stands.branch [
