@@ -12,7 +12,7 @@ use Rattle.sheet.specs.Meanings.{Meaning, Lawful}
 use Rattle.sheet.specs.Checks.{enter_check, pair_check, mark_check, strike_check}
 use Rattle.sheet.specs.Calls.{put_state, put_mark, entered, marked, struck, Called}
 use Rattle.sheet.proofs.Checking.{Clear, called_by, pair_clear, pair_open}
-use Rattle.layers.specs.Folders.{Filed, filed_state, filed_states, filed_marks, seen, entered_in, marked_in, struck_in}
+use Rattle.layers.specs.Folders.{Account, filed_state, filed_states, filed_marks, seen, entered_in, marked_in, struck_in}
 
 stands_there : (own : Bool) (s : State) → filed_state own s ≡ Standing → s ≡ Standing
 stands_there own Absent e = cc
@@ -21,23 +21,23 @@ stands_there false Standing e = refl
 stands_there own Aside e = cc
 
 -- a call that is told by what is filed is told by what is seen, if what is seen changes as asked
-pub seen_called : {n : ℕ} {before changed after : Filed} {wanted : Meaning} {r : Result (Unit {0}) Decline} → (n ≡ 0 → seen changed ≡ wanted)
+pub seen_called : {n : ℕ} {before changed after : Account} {wanted : Meaning} {r : Result (Unit {0}) Decline} → (n ≡ 0 → seen changed ≡ wanted)
     → Called n before changed after r → Called n (seen before) wanted (seen after) r
 seen_called same c = called_by seen refl same c
 
 -- a call on the sheet below that leaves the folder's set alone
 pub below_called : {n k own still : ℕ} {before changed after : Meaning} {r : Result (Unit {0}) Decline} → still ≡ own → n ≡ k → Called n before changed after r
-    → Called {A = Filed} k (record { below = before; own = has own }) (record { below = changed; own = has own }) (record { below = after; own = has still }) r
+    → Called {A = Account} k (record { below = before; own = has own }) (record { below = changed; own = has own }) (record { below = after; own = has still }) r
 below_called {k = k} {own = own} {before = before} {changed = changed} {after = after} {r = r} kept same c =
-    subst (λ (w : ℕ). Called {A = Filed} k (file before) (file changed) (record { below = after; own = has w }) r) (sym kept)
+    subst (λ (w : ℕ). Called {A = Account} k (file before) (file changed) (record { below = after; own = has w }) r) (sym kept)
     (called_by file same (λ _. refl) c)
   where
-    file : Meaning → Filed
+    file : Meaning → Account
     file m = record { below = m; own = has own }
 
 -- One changed mark is seen where both its records stand in the folder:
 -- at that pair what is seen is the new answer, and every other pair is seen as before.
-put_seen : (f : Filed) (u v : ℕ) (b : Bool) → filed_states f u ≡ Standing → filed_states f v ≡ Standing
+put_seen : (f : Account) (u v : ℕ) (b : Bool) → filed_states f u ≡ Standing → filed_states f v ≡ Standing
     → (λ x y. put_mark f.below.marks u v b x y && (is_standing (filed_states f x) && is_standing (filed_states f y))) ≡ put_mark (filed_marks f) u v b
 unfolding put_mark
 put_seen f u v b p q = fun_ext (λ x. fun_ext (λ y. go x y (eqb x u && eqb y v) refl))
@@ -52,18 +52,18 @@ put_seen f u v b p q = fun_ext (λ x. fun_ext (λ y. go x y (eqb x u && eqb y v)
     go x y true e = ap (λ (c : Bool). b && c) (both x y e) ∙ and-true b
     go x y false e = refl
 
-pub mark_seen : (f : Filed) (u v : ℕ) → mark_check (seen f) u v ≡ 0 → seen (marked_in f u v) ≡ marked (seen f) u v
+pub mark_seen : (f : Account) (u v : ℕ) → mark_check (seen f) u v ≡ 0 → seen (marked_in f u v) ≡ marked (seen f) u v
 mark_seen f u v e =
     let c = pair_clear u v (filed_states f u) (filed_states f v) _ e in
     λ i. record { states = filed_states f; marks = put_seen f u v true c.left c.right i; held = f.below.held + 1; capacity = f.below.capacity }
 
-pub strike_seen : (f : Filed) (u v : ℕ) → strike_check (seen f) u v ≡ 0 → seen (struck_in f u v) ≡ struck (seen f) u v
+pub strike_seen : (f : Account) (u v : ℕ) → strike_check (seen f) u v ≡ 0 → seen (struck_in f u v) ≡ struck (seen f) u v
 strike_seen f u v e =
     let c = pair_clear u v (filed_states f u) (filed_states f v) _ e in
     λ i. record { states = filed_states f; marks = put_seen f u v false c.left c.right i; held = f.below.held - 1; capacity = f.below.capacity }
 
 -- a pair that passes the folder's checks is answered below as it is in the folder
-pub pair_seen : (f : Filed) (u v : ℕ) (k : Bool → ℕ) → Clear u v (filed_states f u) (filed_states f v)
+pub pair_seen : (f : Account) (u v : ℕ) (k : Bool → ℕ) → Clear u v (filed_states f u) (filed_states f v)
     → pair_check u v (f.below.states u) (f.below.states v) (k (f.below.marks u v)) ≡ pair_check u v (filed_states f u) (filed_states f v) (k (filed_marks f u v))
 pair_seen f u v k c =
     let below : Clear u v (f.below.states u) (f.below.states v) = record {
@@ -89,7 +89,7 @@ enter_absent true Standing false e = absurd (omega arith)
 enter_absent false Standing false e = absurd (omega arith)
 enter_absent own Aside false e = absurd (omega arith)
 
-states_entered : (f : Filed) (u : ℕ) → filed_states (entered_in f u) ≡ put_state (filed_states f) u Standing
+states_entered : (f : Account) (u : ℕ) → filed_states (entered_in f u) ≡ put_state (filed_states f) u Standing
 unfolding put put_state
 states_entered f u = fun_ext (λ x. go (f.own x) (f.below.states x) (eqb x u))
   where
@@ -98,7 +98,7 @@ states_entered f u = fun_ext (λ x. go (f.own x) (f.below.states x) (eqb x u))
     go own s false = refl
 
 -- Marks are seen as before: a marked pair stands below, so the number that enters is in none.
-marks_entered : (f : Filed) (u : ℕ) → Lawful f.below → f.below.states u ≡ Absent → filed_marks (entered_in f u) ≡ filed_marks f
+marks_entered : (f : Account) (u : ℕ) → Lawful f.below → f.below.states u ≡ Absent → filed_marks (entered_in f u) ≡ filed_marks f
 unfolding put_state
 marks_entered f u l out = fun_ext (λ x. fun_ext (λ y. go x y (f.below.marks x y) refl))
   where
@@ -115,7 +115,7 @@ marks_entered f u l out = fun_ext (λ x. fun_ext (λ y. go x y (f.below.marks x 
         λ i. is_standing (other x ends.0 i) && is_standing (other y ends.1 i)
     go x y false e = refl
 
-pub enter_seen : (f : Filed) (u : ℕ) → Lawful f.below → enter_check (seen f) u ≡ 0 → seen (entered_in f u) ≡ entered (seen f) u
+pub enter_seen : (f : Account) (u : ℕ) → Lawful f.below → enter_check (seen f) u ≡ 0 → seen (entered_in f u) ≡ entered (seen f) u
 enter_seen f u l e =
     let out = enter_absent (f.own u) (f.below.states u) (ltb 63 u) e in
     λ i. record { states = states_entered f u i; marks = marks_entered f u l out i; held = f.below.held; capacity = f.below.capacity }

@@ -7,7 +7,7 @@ use Rattle.sheet.specs.declared.state.State.{State}
 use Rattle.sheet.specs.declared.state.State.TheVariants.{Absent, Standing, Aside}
 use Rattle.sheet.specs.States.{is_standing}
 use Rattle.sheet.specs.Meanings.{Lawful, pairs}
-use Rattle.layers.specs.Folders.{Filed, filed_state, filed_states, filed_marks, seen}
+use Rattle.layers.specs.Folders.{Account, filed_state, filed_states, filed_marks, seen}
 
 is_standing_true : (s : State) → is_standing s ≡ true → s ≡ Standing
 is_standing_true Absent e = cc
@@ -25,14 +25,14 @@ unfolding sum_to
 sum_le f g zero h = zero-le
 sum_le f g (suc n) h = omega (arith, h n, sum_le f g n h)
 
-pairs_le : (f : Filed) → pairs (filed_marks f) ≤ pairs f.below.marks
+pairs_le : (f : Account) → pairs (filed_marks f) ≤ pairs f.below.marks
 unfolding pairs
 pairs_le f =
     sum_le (λ u. sum_to (λ v. bit (filed_marks f u v)) 64) (λ u. sum_to (λ v. bit (f.below.marks u v)) 64) 64
     (λ u. sum_le (λ v. bit (filed_marks f u v)) (λ v. bit (f.below.marks u v)) 64
     (λ v. bit_and (f.below.marks u v) (is_standing (filed_states f u) && is_standing (filed_states f v))))
 
-pub seen_lawful : (f : Filed) → Lawful f.below → Lawful (seen f)
+pub seen_lawful : (f : Account) → Lawful f.below → Lawful (seen f)
 seen_lawful f l = record {
   beyond = λ u h. ap (filed_state (f.own u)) (l.beyond u h);
   ends = λ u v h.

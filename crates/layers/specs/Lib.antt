@@ -1,6 +1,6 @@
 pub mod Turns
 pub mod Folders
-pub mod FiledIn
+pub mod FolderCalls
 pub mod Statements
 pub mod Turning
 pub mod FolderLaws

@@ -4,9 +4,10 @@ ghost use Rattle.model.specs.Refusals.{answer_number};
 ghost use Rattle.model.specs.Sets.{has};
 ghost use Rattle.sheet.specs.Checks.{pair_check};
 ghost use Rattle.sheet.specs.Meanings.{meaning};
-ghost use Rattle.layers.specs.Folders.{filed_states, filed_marks};
+ghost use Rattle.sheet.specs.Views.{meaning_of};
+ghost use Rattle.layers.specs.Folders.{opened, filed_states, filed_marks};
 ghost use Rattle.layers.specs.FolderLaws.{seen_lawful};
-ghost use Rattle.layers.specs.FiledIn.{filed_in, EntersIn, MarksIn, StrikesIn, SetsAside, BringsBack};
+ghost use Rattle.layers.specs.FolderCalls.{account_of, EntersIn, MarksIn, StrikesIn, SetsAside, BringsBack};
 
 use model::bits::{has_bit, with_bit, without_bit};
 use model::decline::Decline;
@@ -24,13 +25,14 @@ pub struct Folder<S> {
 impl<S: Sheet> Folder<S> {
     // A folder that has set nothing aside.
     pub fn new(below: S) -> Folder<S>
-        ensures { (result.below ≡ below) × (result.aside ≡ 0) }
+        ensures account { account_of S.Sheet result ≡ opened (meaning_of S.Sheet below) }
+        ensures below { result.below ≡ below }
     {
         Folder { below, aside: 0 }
     }
 
     fn state_here(&self, u: u8) -> State
-        ensures { result ≡ filed_states (filed_in S.Sheet self.now) u }
+        ensures { result ≡ filed_states (account_of S.Sheet self.now) u }
     {
         match self.below.state(u) {
             State::Standing if has_bit(self.aside, u as usize) => State::Aside,
@@ -40,12 +42,12 @@ impl<S: Sheet> Folder<S> {
 
     // The first check that the pair fails in this folder, up to 5.
     fn check_here(&self, u: u8, v: u8) -> Result<(), Decline>
-        ensures { answer_number result ≡ pair_check u v (filed_states (filed_in S.Sheet self.now) u) (filed_states (filed_in S.Sheet self.now) v) 0 }
+        ensures { answer_number result ≡ pair_check u v (filed_states (account_of S.Sheet self.now) u) (filed_states (account_of S.Sheet self.now) v) 0 }
     {
         check_pair(u, v, self.state_here(u), self.state_here(v))
     }
 
-    // Enter, mark and strike, by what they make of the sheet below and of the folder's own set.
+    // Enter, mark and strike, by what they make of the folder's account: the sheet below and the set.
     pub fn enter_here(&mut self, u: u8) -> Result<(), Decline>
         ensures { EntersIn S.Sheet u self.old self.new result }
     {
@@ -77,7 +79,7 @@ impl<S: Sheet> Folder<S> {
     }
 
     pub fn set_aside(&mut self, u: u8) -> Result<(), Decline>
-        ensures filed { SetsAside S.Sheet u self.old self.new result }
+        ensures account { SetsAside S.Sheet u self.old self.new result }
         ensures below { self.new.below ≡ self.old.below }
     {
         if u > 63 {
@@ -95,7 +97,7 @@ impl<S: Sheet> Folder<S> {
 
     // Undoes this folder's own setting aside.
     pub fn bring_back(&mut self, u: u8) -> Result<(), Decline>
-        ensures filed { BringsBack S.Sheet u self.old self.new result }
+        ensures account { BringsBack S.Sheet u self.old self.new result }
         ensures below { self.new.below ≡ self.old.below }
     {
         if u > 63 {
@@ -113,9 +115,9 @@ impl<S: Sheet> Folder<S> {
 }
 
 impl<S: Sheet> Sheet for Folder<S> {
-    ghost states = { λ f. filed_states (filed_in S.Sheet f) };
+    ghost states = { λ f. filed_states (account_of S.Sheet f) };
 
-    ghost marks = { λ f. filed_marks (filed_in S.Sheet f) };
+    ghost marks = { λ f. filed_marks (account_of S.Sheet f) };
 
     ghost held = { λ f. S.Sheet.held f.below };
 
