@@ -1,17 +1,17 @@
 -- One call more of a list. Assumes nothing.
 use Rattle.std.proofs.Common.{◌≡◌, ℕ, zero, suc, ◌+◌, ◌<◌, List, [], ◌∷◌, length, get_or, take, refl, ap, ◌∙◌, add-one, arith, below_more}
-use Rattle.sheet.specs.Meanings.{Meaning}
+use Rattle.layers.specs.Folders.{Account}
 use Rattle.archive.specs.declared.call.Call.{Call}
-use Rattle.archive.specs.Runs.{next, run}
+use Rattle.archive.specs.Accounts.{next, run}
 
-run_next : (m : Meaning) (cs : List Call) (i : ℕ) (d : Call) → i < length cs → run m (take (suc i) cs) ≡ next (run m (take i cs)) (get_or cs i d)
+pub run_next : (a : Account) (cs : List Call) (i : ℕ) (d : Call) → i < length cs → run a (take (suc i) cs) ≡ next (run a (take i cs)) (get_or cs i d)
 unfolding run
-run_next m [] i d h = absurd (omega arith)
-run_next m (c ∷ cs) zero d h = refl
-run_next m (c ∷ cs) (suc i) d h = run_next (next m c) cs i d (omega arith)
+run_next a [] i d h = absurd (omega arith)
+run_next a (c ∷ cs) zero d h = refl
+run_next a (c ∷ cs) (suc i) d h = run_next (next a c) cs i d (omega arith)
 
-pub run_more : (m : Meaning) (cs : List Call) (i : ℕ) (d : Call) → i < length cs → run m (take (i + 1) cs) ≡ next (run m (take i cs)) (get_or cs i d)
-run_more m cs i d h = ap (λ (n : ℕ). run m (take n cs)) (add-one i) ∙ run_next m cs i d h
+pub run_more : (a : Account) (cs : List Call) (i : ℕ) (d : Call) → i < length cs → run a (take (i + 1) cs) ≡ next (run a (take i cs)) (get_or cs i d)
+run_more a cs i d h = ap (λ (n : ℕ). run a (take n cs)) (add-one i) ∙ run_next a cs i d h
 
 -- one more at the end of a list, of which each place has its fact
 pub each_push : {X : Type 0} (P : ℕ → X → Type 0) (xs ys : List X) (n : ℕ) (x d : X)

@@ -1,5 +1,5 @@
 -- From the outcome of a grading call to its answer. Assumes nothing.
-use Rattle.std.proofs.Common.{◌≡◌, ℕ, Bool, true, false, List, get_or, take, IfOk, Ok, Err, vec_items, MatchBool, Result, Vec, sym, refl, subst, arith}
+use Rattle.std.proofs.Common.{ap, length, ◌≤◌, ◌⊎◌, length-take-le, ◌≡◌, ℕ, Bool, true, false, List, get_or, take, IfOk, Ok, Err, vec_items, MatchBool, Result, Vec, sym, refl, subst, inl, inr, arith}
 use Rattle.std.specs.declared.alloc.Global.{Global}
 use Rattle.model.specs.declared.decline.Decline.{Decline}
 use Rattle.model.specs.declared.decline.Decline.TheVariants.{TooLittleMemory, NumberTooHigh, SameRecord, RecordAbsent, RecordAside, AlreadyStands, AlreadyMarked, SheetFull, NotMarked, NotSetAside, OutsideLimits, Circle, Forbidden, MissingByte, BrokenForm, DoesNotHold, WrongLine}
@@ -9,30 +9,41 @@ use Rattle.model.specs.Refusals.{number_of, ring_length}
 use Rattle.model.specs.Views.{View}
 use Rattle.grading.specs.Outcomes.{Memory, suffices, Declined, Given, Shown, Solved, Outcome}
 use Rattle.archive.specs.declared.answer.Answer.{Answer}
+use Rattle.archive.specs.declared.answer.Answer.TheVariants.{Forced}
 use Rattle.archive.specs.declared.answer.Graded.{Graded}
 use Rattle.archive.specs.Listed.{listed}
 use Rattle.archive.specs.Told.{Refused, plain, forced, Told, outside, given}
 use Rattle.archive.specs.Told as told
 
--- the number 13 is Forbidden's
-pub only_forbidden : (d : Decline) → number_of d ≡ 13 → ((k : ℕ) → d ≡ Forbidden k → ⊥) → ⊥
-only_forbidden TooLittleMemory e n = omega arith
-only_forbidden NumberTooHigh e n = omega arith
-only_forbidden SameRecord e n = omega arith
-only_forbidden RecordAbsent e n = omega arith
-only_forbidden RecordAside e n = omega arith
-only_forbidden AlreadyStands e n = omega arith
-only_forbidden AlreadyMarked e n = omega arith
-only_forbidden SheetFull e n = omega arith
-only_forbidden NotMarked e n = omega arith
-only_forbidden NotSetAside e n = omega arith
-only_forbidden OutsideLimits e n = omega arith
-only_forbidden (Circle k) e n = omega arith
-only_forbidden (Forbidden k) e n = n k refl
-only_forbidden MissingByte e n = omega arith
-only_forbidden BrokenForm e n = omega arith
-only_forbidden DoesNotHold e n = omega arith
-only_forbidden WrongLine e n = omega arith
+-- the numbers 12 and 13 are those of Circle and Forbidden alone
+pub plain_number : (d : Decline) → ((k : ℕ) → d ≡ Circle k → ⊥) → ((k : ℕ) → d ≡ Forbidden k → ⊥) → (number_of d ≡ 12 → ⊥) × (number_of d ≡ 13 → ⊥)
+plain_number TooLittleMemory c f = (λ e. omega arith, λ e. omega arith)
+plain_number NumberTooHigh c f = (λ e. omega arith, λ e. omega arith)
+plain_number SameRecord c f = (λ e. omega arith, λ e. omega arith)
+plain_number RecordAbsent c f = (λ e. omega arith, λ e. omega arith)
+plain_number RecordAside c f = (λ e. omega arith, λ e. omega arith)
+plain_number AlreadyStands c f = (λ e. omega arith, λ e. omega arith)
+plain_number AlreadyMarked c f = (λ e. omega arith, λ e. omega arith)
+plain_number SheetFull c f = (λ e. omega arith, λ e. omega arith)
+plain_number NotMarked c f = (λ e. omega arith, λ e. omega arith)
+plain_number NotSetAside c f = (λ e. omega arith, λ e. omega arith)
+plain_number OutsideLimits c f = (λ e. omega arith, λ e. omega arith)
+plain_number (Circle k) c f = absurd (c k refl)
+plain_number (Forbidden k) c f = absurd (f k refl)
+plain_number MissingByte c f = (λ e. omega arith, λ e. omega arith)
+plain_number BrokenForm c f = (λ e. omega arith, λ e. omega arith)
+plain_number DoesNotHold c f = (λ e. omega arith, λ e. omega arith)
+plain_number WrongLine c f = (λ e. omega arith, λ e. omega arith)
+
+-- a refusal that shows a ring, and that ring
+pub with_ring : (d : Decline) (k : ℕ) (ring : List ℕ) (v : Vec ℕ Global) → (d ≡ Circle k) ⊎ (d ≡ Forbidden k) → ring_length d ≤ length ring → vec_items v ≡ take k ring
+    → Refused d (take (ring_length d) ring) (Forced d v)
+with_ring d k ring v (inl is) within items =
+    let long : ring_length d ≡ k = ap ring_length is in
+    forced v (inl (ap number_of is)) (rw long items) (omega (arith, ap length items, length-take-le k ring (omega arith)))
+with_ring d k ring v (inr is) within items =
+    let long : ring_length d ≡ k = ap ring_length is in
+    forced v (inr (ap number_of is)) (rw long items) (omega (arith, ap length items, length-take-le k ring (omega arith)))
 
 module _ {V : Type 0} (w : View) (t : Thresholds) (asked : (ℕ → V) → Type 0) (none : V) (forbids : List ℕ → Type 0) (give : Vec (Graded V) Global → Answer) (before after : Memory V) (room : suffices before ≡ true) where
   -- with enough memory: the limits first, and then the grades or the ring
@@ -50,10 +61,11 @@ module _ {V : Type 0} (w : View) (t : Thresholds) (asked : (ℕ → V) → Type 
   told_refused d x o = go (within_limits t) refl (inside (Err d) o) x
     where
       go : (b : Bool) → within_limits t ≡ b → MatchBool b ((number_of d ≡ 13) × Shown forbids (ring_length d) before after) (Declined 11 before after (Err d)) → (y : Answer) → Refused d (take (ring_length d) after.ring) y → Told w t asked forbids give y
-      go true l s y (plain no_ring) = absurd (no_ring s.0)
-      go true l s y (forced v is e) = told.forced d v is l (subst forbids (sym e) s.1.ring)
-      go false l s y (plain no_ring) = outside d s.answer l
-      go false l s y (forced v is e) = absurd (omega (arith, s.answer))
+      go true l s y (plain no-circle no-ring) = absurd (no-ring s.0)
+      go true l s y (forced v is e long) = told.forced d v s.0 long l (subst forbids (sym e) s.1.ring)
+      go false l s y (plain no-circle no-ring) = outside d s.answer l
+      go false l s y (forced v (inl is) e long) = absurd (omega (arith, s.answer))
+      go false l s y (forced v (inr is) e long) = absurd (omega (arith, s.answer))
 
   pub told_made : {E : Type 0} (d : Decline) (r : Result Answer E) → Outcome w t asked none forbids before after (Err d) → IfOk r (Refused d (take (ring_length d) after.ring)) → IfOk r (Told w t asked forbids give)
   told_made d (Ok x) o m = told_refused d x o m

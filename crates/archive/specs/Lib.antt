@@ -1,4 +1,6 @@
 pub mod Listed
 pub mod Told
-pub mod Runs
+pub mod Accounts
 pub mod Right
+pub mod Lessening
+pub mod Following

@@ -22,4 +22,11 @@ pub enum Answer {
     Wholes(Vec<Graded<Whole>>),
     Pairs(Vec<Graded<Pair<Whole, Unit>>>),
     Units(Vec<Graded<Unit>>),
+    // the least ratio, the ring that shows it (none for 0 to 1), and the grades for t1 = hops and t2 = marks
+    Ratio {
+        marks: u8,
+        hops: u8,
+        ring: Vec<u8>,
+        grades: Vec<Graded<Whole>>,
+    },
 }

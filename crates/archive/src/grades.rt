@@ -1,19 +1,18 @@
 // A grading call and its answer: memory is brought, and what was found is listed.
-ghost use Rattle.std.specs.Prelude.{◌≡◌, ◌≤◌, true, length, take, IfOk, Vec};
+ghost use Rattle.std.specs.Prelude.{◌≡◌, true, IfOk, Vec};
 ghost use Rattle.std.specs.declared.alloc.Global.{Global};
-ghost use Rattle.model.specs.Refusals.{ring_length};
 ghost use Rattle.sheet.specs.Views.{view_of};
 ghost use Rattle.grading.specs.Outcomes.{brought, suffices};
 ghost use Rattle.archive.specs.declared.answer.Answer.{Answer};
 ghost use Rattle.archive.specs.declared.answer.Answer.TheVariants.{Wholes, Pairs, Units};
 ghost use Rattle.archive.specs.declared.answer.Graded.{Graded};
-ghost use Rattle.archive.specs.Told.{Refused, Told};
+ghost use Rattle.archive.specs.Told.{Told};
 
 use crate::answer::{Answer, Graded};
 use crate::listing::list_grades;
+use crate::refusal::refusal;
 use grading::kinds::{Kind, graded};
 use grading::memory::Memory;
-use model::decline::Decline;
 use model::thresholds::Thresholds;
 use scale::pair::Pair;
 use scale::unit::Unit;
@@ -57,20 +56,6 @@ impl Answering for Unit {
         ensures { result ≡ Units entries }
     {
         Answer::Units(entries)
-    }
-}
-
-// The answer that a refusal becomes: with its ring, if it forbids.
-fn refusal(heap: Global, decline: Decline, ring: &[u8]) -> Result<Answer, AllocError>
-    requires { ring_length decline ≤ length ring.now }
-    ensures { IfOk result (Refused decline (take (ring_length decline) ring.now)) }
-{
-    match decline {
-        Decline::Forbidden { ring: k } => Ok(Answer::Forced(
-            decline,
-            Vec::from_slice(heap, &ring[0..k as usize])?,
-        )),
-        _ => Ok(Answer::Declined(decline)),
     }
 }
 

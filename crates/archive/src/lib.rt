@@ -1,8 +1,10 @@
-// Calls on a sheet of any make, and their answers.
+// Calls on a folder over a sheet of any make, and their answers.
 #![tactic(auto)]
 
 pub mod answer;
 pub mod call;
 mod grades;
 mod listing;
+mod ratio;
+mod refusal;
 pub mod replay;

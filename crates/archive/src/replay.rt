@@ -1,12 +1,14 @@
-// A list of calls on a sheet of any make, with all their answers.
-ghost use Rattle.std.specs.Prelude.{◌≡◌, IfOk};
-ghost use Rattle.sheet.specs.Views.{meaning_of};
-ghost use Rattle.archive.specs.Runs.{next};
-ghost use Rattle.archive.specs.Right.{Tells, Right, Replayed};
+// A list of calls on a new folder over a sheet of any make, with all their answers.
+ghost use Rattle.std.specs.Prelude.{IfOk};
+ghost use Rattle.layers.specs.FolderCalls.{account_of};
+ghost use Rattle.archive.specs.Right.{Tells, Right};
+ghost use Rattle.archive.specs.Following.{Tidy, Followed, Replayed};
 
 use crate::answer::Answer;
 use crate::call::Call;
 use crate::grades::grades_answer;
+use crate::ratio::ratio_answer;
+use layers::folder::Folder;
 use model::decline::Decline;
 use model::thresholds::Thresholds;
 use scale::pair::Pair;
@@ -26,35 +28,43 @@ impl From<Result<(), Decline>> for Answer {
     }
 }
 
-// One call: what it makes of the sheet, and its answer.
-pub fn answer<S: Sheet>(heap: Global, sheet: &mut S, call: Call) -> Result<Answer, AllocError>
-    ensures meaning { meaning_of S.Sheet sheet.new ≡ next (meaning_of S.Sheet sheet.old) call }
-    ensures right { IfOk result (Right (meaning_of S.Sheet sheet.old) call) }
+// One call: what it makes of the folder's account, and its answer.
+fn answer<S: Sheet>(heap: Global, folder: &mut Folder<S>, call: Call) -> Result<Answer, AllocError>
+    ensures follows { Tidy (account_of S.Sheet folder.old) → Followed (account_of S.Sheet folder.old) call (account_of S.Sheet folder.new) }
+    ensures right { Tidy (account_of S.Sheet folder.old) → IfOk result (Right (account_of S.Sheet folder.old) call) }
 {
     match call {
-        Call::Enter(u) => Ok(sheet.enter(u).into()),
-        Call::Mark(u, v) => Ok(sheet.mark(u, v).into()),
-        Call::Strike(u, v) => Ok(sheet.strike(u, v).into()),
-        Call::Loose(thresholds) => grades_answer::<S, Whole>(heap, sheet, thresholds),
-        Call::Strict(thresholds) => grades_answer::<S, Pair<Whole, Unit>>(heap, sheet, thresholds),
+        Call::Enter(u) => Ok(folder.enter_here(u).into()),
+        Call::Mark(u, v) => Ok(folder.mark_here(u, v).into()),
+        Call::Strike(u, v) => Ok(folder.strike_here(u, v).into()),
+        Call::SetAside(u) => Ok(folder.set_aside(u).into()),
+        Call::BringBack(u) => Ok(folder.bring_back(u).into()),
+        Call::Loose(thresholds) => grades_answer::<Folder<S>, Whole>(heap, folder, thresholds),
+        Call::Strict(thresholds) => {
+            grades_answer::<Folder<S>, Pair<Whole, Unit>>(heap, folder, thresholds)
+        }
         // whatever thresholds are given, those of the unit count
-        Call::Unit => grades_answer::<S, Unit>(heap, sheet, Thresholds { t1: 1, t2: 0 }),
+        Call::Unit => {
+            grades_answer::<Folder<S>, Unit>(heap, folder, Thresholds { t1: 1, t2: 0 })
+        }
+        Call::Ratio => ratio_answer(heap, folder),
         Call::Wrong => Ok(Answer::Declined(Decline::WrongLine)),
     }
 }
 
-// All calls in their order: the sheet after them, and every answer.
+// Opens a new folder over the sheet, and takes all calls in their order: the folder after them, and every answer.
 pub fn replay<S: Sheet + Drop>(
     heap: Global,
-    mut sheet: S,
+    sheet: S,
     calls: &[Call],
-) -> Result<(S, Vec<Answer>), AllocError>
+) -> Result<(Folder<S>, Vec<Answer>), AllocError>
     ensures { IfOk result (λ p. Replayed S.Sheet sheet calls.now p.0 p.1.items) }
 {
+    let mut folder = Folder::new(sheet);
     let mut answers = Vec::new(heap);
     for call in calls {
-        let given = answer(heap, &mut sheet, *call)?;
+        let given = answer(heap, &mut folder, *call)?;
         answers.push(given)?;
     }
-    Ok((sheet, answers))
+    Ok((folder, answers))
 }

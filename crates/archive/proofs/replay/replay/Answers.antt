@@ -1,33 +1,58 @@
-use Rattle.std.proofs.Common.{ℕ, get_or, take, vec_items, sym, refl, ap, ◌∙◌, subst, arith}
-use Rattle.sheet.specs.Meanings.{Meaning}
+use Rattle.std.proofs.Common.{ℕ, get_or, take, vec_items, sym, refl, ap, ◌∙◌, subst, arith, take_all}
 use Rattle.sheet.specs.Views.{meaning_of}
+use Rattle.layers.specs.Folders.{Account, opened}
+use Rattle.layers.specs.FolderCalls.{account_of}
 use Rattle.archive.specs.declared.call.Call.TheVariants.{Enter}
 use Rattle.archive.specs.declared.answer.Answer.TheVariants.{Taken}
-use Rattle.archive.specs.Runs.{next, run}
-use Rattle.archive.specs.Right.{Right}
+use Rattle.archive.specs.Accounts.{told, next, run}
+use Rattle.archive.specs.Right.{Right, AllRight}
+use Rattle.archive.specs.Following.{Tidy}
 use Rattle.archive.proofs.Runs.{run_more, each_push}
+use Rattle.archive.proofs.Tidying.{seen_told, opened_tidy}
+use Rattle.archive.proofs.Lessening.{lessens}
 use Rattle.archive.proofs.replay.replay.Goals as goal
 
 pub loop-call-init : goal.loop-call-init
 unfolding run
-loop-call-init g c = (refl, c.new-answers.ensures.len, (λ k l. absurd (omega arith)))
+loop-call-init g c =
+    (refl, subst Tidy (sym c.new-folder.ensures.account) (opened_tidy (meaning_of g.S.Sheet c.args.sheet)), c.new-answers.ensures.len, (λ k l. absurd (omega arith)))
 
 pub loop-call-preserved : goal.loop-call-preserved
 loop-call-preserved g c =
-    let m = meaning_of g.S.Sheet c.args.sheet in
+    let a = account_of g.S.Sheet c.new-folder.result in
     let i = c.loop-call.call-index in
     let cs = c.args.calls.now in
     let call = get_or cs i (Enter 0) in
     let inv = c.loop-call.invariant in
     let now = c.in_ok-given.ensures in
+    let followed = now.follows inv.1 in
     let put = c.in_ok-push.ensures in
     let xs = vec_items c.loop-call.answers in
     let ys = vec_items c.push.new.self in (
-      now.meaning ∙ ap (λ (b : Meaning). next b call) inv.0 ∙ sym (run_more m cs i (Enter 0) c.loop-call-test.true),
-      omega (arith, put.len, inv.1),
-      each_push (λ k x. Right (run m (take k cs)) (get_or cs k (Enter 0)) x) xs ys i c.in_ok-given.given Taken
-          (λ k h. put.by_index.0 k Taken (omega (arith, inv.1)))
-          (ap (λ (n : ℕ). get_or ys n Taken) (sym inv.1) ∙ put.by_index.1 Taken refl)
-          (subst (λ (b : Meaning). Right b call c.in_ok-given.given) inv.0 now.right)
-          inv.2,
+      followed.account ∙ ap (λ (b : Account). next b call) inv.0 ∙ sym (run_more a cs i (Enter 0) c.loop-call-test.true),
+      followed.tidy,
+      omega (arith, put.len, inv.2),
+      each_push (λ k x. Right (run a (take k cs)) (get_or cs k (Enter 0)) x) xs ys i c.in_ok-given.given Taken
+          (λ k h. put.by_index.0 k Taken (omega (arith, inv.2)))
+          (ap (λ (n : ℕ). get_or ys n Taken) (sym inv.2) ∙ put.by_index.1 Taken refl)
+          (subst (λ (b : Account). Right b call c.in_ok-given.given) inv.0 (now.right inv.1))
+          inv.3,
     )
+
+pub returns : goal.returns
+returns g c =
+    let a = account_of g.S.Sheet c.new-folder.result in
+    let cs = c.args.calls.now in
+    let inv = c.loop-call.invariant in
+    let start = c.new-folder.ensures.account in
+    let done = inv.0 ∙ ap (run a) (take_all c.loop-call.call-index cs c.loop-call-test.false) ∙ ap (λ (b : Account). run b cs) start in
+    let right = subst (λ (b : Account). AllRight b cs (vec_items c.loop-call.answers)) start (record {
+      long = omega (arith, inv.2);
+      each = λ k h. inv.3 k (omega arith);
+    }) in
+    record {
+      account = done;
+      questions = seen_told (account_of g.S.Sheet c.loop-call.folder) inv.1 ∙ ap told done;
+      answers_right = right;
+      lessens = lessens (opened (meaning_of g.S.Sheet c.args.sheet)) cs (vec_items c.loop-call.answers) right;
+    }
