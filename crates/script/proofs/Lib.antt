@@ -1,5 +1,6 @@
 pub mod Digits
 pub mod Fields
+pub mod Lettered
 pub mod OneWay
 pub mod FirstLine
 pub mod Sizes

@@ -2,7 +2,7 @@
 use Rattle.std.proofs.Common.{◌≡◌, ℕ, ◌<◌, ◌≤◌, cond, eqb, List, ◌++◌, length, get_or, drop, Some, None, Option, sym, refl, ap, ◌∙◌, ap₂, inl, inr, arith, length-append}
 use Rattle.std.proofs.lemmas.Fmt.{decimal_injective, length-decimal-le}
 use Rattle.script.specs.Numbers.{field}
-use Rattle.script.specs.Lines.{Verb, Enter, Mark, Strike, Loose, Strict, OnUnits, letter, arity, call_of, fields, Fields}
+use Rattle.script.specs.Lines.{Verb, Enter, Mark, Strike, Aside, Back, Loose, Strict, OnUnits, Ratio, letter, arity, call_of, fields, Fields}
 use Rattle.script.specs.Statements.{ReadOneWay, LinesShort, LongLinesWrong}
 use Rattle.script.proofs.Fields.{second_space, cut_left, cut_right}
 
@@ -10,7 +10,8 @@ use Rattle.script.proofs.Fields.{second_space, cut_left, cut_right}
 verb_at : ℕ → Option Verb
 verb_at b =
     cond (eqb b 101) (Some Enter) (cond (eqb b 109) (Some Mark) (cond (eqb b 115) (Some Strike)
-    (cond (eqb b 103) (Some Loose) (cond (eqb b 104) (Some Strict) (cond (eqb b 111) (Some OnUnits) None)))))
+    (cond (eqb b 103) (Some Loose) (cond (eqb b 104) (Some Strict) (cond (eqb b 111) (Some OnUnits)
+    (cond (eqb b 97) (Some Aside) (cond (eqb b 98) (Some Back) (cond (eqb b 114) (Some Ratio) None))))))))
 
 verb_letter : (v : Verb) → verb_at (letter v) ≡ Some v
 unfolding verb_at
@@ -20,6 +21,9 @@ verb_letter Strike = refl
 verb_letter Loose = refl
 verb_letter Strict = refl
 verb_letter OnUnits = refl
+verb_letter Aside = refl
+verb_letter Back = refl
+verb_letter Ratio = refl
 
 same_verb : (v w : Verb) → letter v ≡ letter w → v ≡ w
 same_verb v w e = let s : Some v ≡ Some w = sym (verb_letter v) ∙ ap verb_at e ∙ verb_letter w in cc
@@ -50,6 +54,9 @@ module _ (n m p q : ℕ) (a : n < 10000000) (b : m < 10000000) (c : p < 10000000
   same_call Loose e = same_two Loose e
   same_call Strict e = same_two Strict e
   same_call OnUnits e = refl
+  same_call Aside e = ap (λ (x : ℕ). call_of Aside x 0) (same_field n p a c e)
+  same_call Back e = ap (λ (x : ℕ). call_of Back x 0) (same_field n p a c e)
+  same_call Ratio e = refl
 
 pub read_one_way : ReadOneWay
 read_one_way bs c d x y =
@@ -74,6 +81,9 @@ module _ (n m : ℕ) (a : n < 10000000) (b : m < 10000000) where
   fields_long Loose = two_long
   fields_long Strict = two_long
   fields_long OnUnits = omega arith
+  fields_long Aside = omega (arith, field_long n a)
+  fields_long Back = omega (arith, field_long n a)
+  fields_long Ratio = omega arith
 
 pub lines_short : LinesShort
 lines_short bs c x = rw x.line (omega (arith, fields_long x.n x.m x.small x.small₂ x.verb))

@@ -1,24 +1,26 @@
 -- Every answer of the archive is printable. Assumes nothing.
-use Rattle.std.proofs.Common.{◌≡◌, ℕ, zero, suc, ◌<◌, ◌≤◌, Bool, true, false, List, [], ◌∷◌, ◌++◌, length, get_or, vec_items, vec_len, Vec, sym, refl, subst, ⊎_elim, arith, length-append}
+use Rattle.std.proofs.Common.{◌≡◌, ℕ, zero, suc, ◌<◌, ◌≤◌, Bool, true, false, List, [], ◌∷◌, ◌++◌, length, get_or, vec_items, vec_len, Vec, sym, refl, subst, inl, inr, ⊎_elim, arith, length-append}
 use Rattle.std.specs.declared.alloc.Global.{Global}
 use Rattle.std.proofs.lemmas.List.{get_or_past}
 use Rattle.std.proofs.lemmas.Bool.{cases_lt}
 use Rattle.model.specs.declared.thresholds.Thresholds.{Thresholds}
 use Rattle.model.specs.Views.{View}
 use Rattle.model.specs.Rings.{Ring}
+use Rattle.model.specs.Ratios.{Shows}
+use Rattle.model.proofs.Rounds.{e_and_h}
 use Rattle.scale.specs.Wholes.{WholeExtent}
 use Rattle.scale.specs.Units.{UnitExtent}
 use Rattle.scale.specs.Pairs.{PairExtent}
 use Rattle.scale.specs.Numbers.{low, near}
 use Rattle.paths.proofs.Pigeons.{pigeons}
-use Rattle.sheet.specs.Meanings.{Meaning}
-use Rattle.sheet.specs.Views.{view_in}
+use Rattle.layers.specs.Folders.{Account}
 use Rattle.archive.specs.declared.call.Call.{Call}
-use Rattle.archive.specs.declared.call.Call.TheVariants.{Enter, Mark, Strike, Loose, Strict, Unit as UnitsCall, Wrong}
+use Rattle.archive.specs.declared.call.Call.TheVariants.{Enter, Mark, Strike, SetAside, BringBack, Loose, Strict, Unit as UnitsCall, Ratio as RatioCall, Wrong}
 use Rattle.archive.specs.declared.answer.Answer.{Answer}
 use Rattle.archive.specs.declared.answer.Graded.{Graded}
 use Rattle.archive.specs.Listed.{entry, listed}
-use Rattle.archive.specs.Told.{outside, forced, given, LooseTold, StrictTold, UnitTold}
+use Rattle.archive.specs.Told.{outside, forced, given, circled, found, LooseTold, StrictTold, UnitTold, RatioTold}
+use Rattle.archive.specs.Accounts.{stands_in}
 use Rattle.archive.specs.Right.{Plain, taken, declined, Right}
 use Rattle.script.specs.Text.{entries_of, printable}
 use Rattle.script.specs.Statements.{ModestEntries, Modest}
@@ -89,29 +91,47 @@ plain_fits n x (declined d e) = (tt, omega arith)
 
 loose_fits : (w : View) (t : Thresholds) (x : Answer) → LooseTold w t x → Fits x
 loose_fits w t x (outside d e l) = (tt, omega arith)
-loose_fits w t x (forced d v e l f) = let m = ring_modest w (vec_items v) f.ring in (m.0, counted v m.1)
+loose_fits w t x (forced d v e long l f) = let m = ring_modest w (vec_items v) f.ring in (m.0, counted v m.1)
 loose_fits w t x (given v g l best e) = let m = listed_modest w g WholeExtent (vec_items v) (λ u h st. omega (arith, best.size u h st, low t l, near t l)) e in (m.0, counted v m.1)
 
 strict_fits : (w : View) (t : Thresholds) (x : Answer) → StrictTold w t x → Fits x
 strict_fits w t x (outside d e l) = (tt, omega arith)
-strict_fits w t x (forced d v e l f) = let m = ring_modest w (vec_items v) f.ring in (m.0, counted v m.1)
+strict_fits w t x (forced d v e long l f) = let m = ring_modest w (vec_items v) f.ring in (m.0, counted v m.1)
 strict_fits w t x (given v g l best e) =
     let m = listed_modest w g (PairExtent WholeExtent UnitExtent) (vec_items v) (λ u h st. (omega (arith, (best.greatest.extent u h st).0), omega (arith, (best.greatest.extent u h st).1))) e in
     (m.0, counted v m.1)
 
 unit_fits : (w : View) (x : Answer) → UnitTold w x → Fits x
 unit_fits w x (outside d e l) = (tt, omega arith)
-unit_fits w x (forced d v e l f) = let m = ring_modest w (vec_items v) f.ring in (m.0, counted v m.1)
+unit_fits w x (forced d v e long l f) = let m = ring_modest w (vec_items v) f.ring in (m.0, counted v m.1)
 unit_fits w x (given v g l best e) = let m = listed_modest w g UnitExtent (vec_items v) (λ u h st. omega (arith, best.size u h st)) e in (m.0, counted v m.1)
 
-right_fits : (m : Meaning) (c : Call) (x : Answer) → Right m c x → Fits x
-right_fits m (Enter u) x r = plain_fits _ x r
-right_fits m (Mark u v) x r = plain_fits _ x r
-right_fits m (Strike u v) x r = plain_fits _ x r
-right_fits m (Loose t) x r = loose_fits (view_in m) t x r
-right_fits m (Strict t) x r = strict_fits (view_in m) t x r
-right_fits m UnitsCall x r = unit_fits (view_in m) x r
-right_fits m Wrong x r = plain_fits 17 x r
+-- a ring's marks and hops are as many as its records, so at most 64
+shown_fits : (w : View) (e h : ℕ) (xs : List ℕ) → Shows w e h xs → (e < 256) × (h < 256) × ((k : ℕ) → get_or xs k 0 < 256) × (length xs ≤ 64)
+shown_fits w e h xs (inl none) =
+    (omega (arith, none.marks), omega (arith, none.hops), (λ k. rw none.empty (omega arith)), rw none.empty (omega arith))
+shown_fits w e h xs (inr r) =
+    let m = ring_modest w xs r.ring in
+    let all = e_and_h w xs r.ring.cycle in
+    (omega (arith, m.1, r.marks, all), omega (arith, m.1, r.hops, all), m.0, m.1)
 
-pub right_prints : (m : Meaning) (c : Call) (x : Answer) → Right m c x → printable x ≡ true
-right_prints m c x r = let f = right_fits m c x r in modest_printable x f.1 f.0
+ratio_fits : (w : View) (x : Answer) → RatioTold w x → Fits x
+ratio_fits w x (circled d v e long c) = let m = ring_modest w (vec_items v) c.ring in (m.0, counted v m.1)
+ratio_fits w x (found e h ring v g least best is) =
+    let m = shown_fits w e h (vec_items ring) least.shown in
+    ((m.0, m.1, m.2), counted ring m.3)
+
+right_fits : (a : Account) (c : Call) (x : Answer) → Right a c x → Fits x
+right_fits a (Enter u) x r = plain_fits _ x r
+right_fits a (Mark u v) x r = plain_fits _ x r
+right_fits a (Strike u v) x r = plain_fits _ x r
+right_fits a (SetAside u) x r = plain_fits _ x r
+right_fits a (BringBack u) x r = plain_fits _ x r
+right_fits a (Loose t) x r = loose_fits (stands_in a) t x r
+right_fits a (Strict t) x r = strict_fits (stands_in a) t x r
+right_fits a UnitsCall x r = unit_fits (stands_in a) x r
+right_fits a RatioCall x r = ratio_fits (stands_in a) x r
+right_fits a Wrong x r = plain_fits 17 x r
+
+pub right_prints : (a : Account) (c : Call) (x : Answer) → Right a c x → printable x ≡ true
+right_prints a c x r = let f = right_fits a c x r in modest_printable x f.1 f.0

@@ -1,5 +1,5 @@
 -- How long the parts of an answer's line can be.
-use Rattle.std.proofs.Common.{◌≡◌, ℕ, suc, ◌*◌, ◌^◌, ◌<◌, ◌≤◌, List, [], ◌∷◌, ◌++◌, length, get_or, ℤ, pos, negsuc, nat_abs, vec_items, codes, decimal, refl, mul-suc, arith, length-append}
+use Rattle.std.proofs.Common.{◌≡◌, ℕ, suc, ◌*◌, ◌^◌, ◌<◌, ◌≤◌, Bool, true, false, cond, eqb, List, [], ◌∷◌, ◌++◌, length, get_or, ℤ, pos, negsuc, nat_abs, vec_items, codes, decimal, refl, mul-suc, arith, length-append}
 use Rattle.std.specs.List.{flat_map}
 use Rattle.std.specs.Fmt.{signed_decimal}
 use Rattle.std.proofs.lemmas.List.{get_or_default}
@@ -16,9 +16,9 @@ use Rattle.scale.specs.declared.unit.Unit.{Unit as UnitValue}
 use Rattle.scale.specs.declared.whole.Whole.{Whole}
 use Rattle.archive.specs.declared.answer.Graded.{Graded}
 use Rattle.archive.specs.declared.answer.Answer.{Answer}
-use Rattle.archive.specs.declared.answer.Answer.TheVariants.{Taken, Declined, Forced, Wholes, Pairs, Units}
+use Rattle.archive.specs.declared.answer.Answer.TheVariants.{Taken, Declined, Forced, Wholes, Pairs, Units, Ratio}
 use Rattle.script.specs.Numbers.{field}
-use Rattle.script.specs.Text.{whole_text, unit_text, pair_text, entry_text, text_of, line_of, entries_of}
+use Rattle.script.specs.Text.{whole_text, unit_text, pair_text, entry_text, ratio_text, ring_text, text_of, line_of, entries_of}
 use Rattle.script.specs.Statements.{Modest, ModestPrintable}
 
 -- a byte has at most 3 digits
@@ -72,16 +72,27 @@ pair_long : (p : Pair Whole UnitValue) → PairExtent WholeExtent UnitExtent p 4
 pair_long p h =
     omega (arith, signed_long p.first.value h.0, signed_long p.second.value (omega (arith, h.1)), length-append (whole_text p.first) (codes "/" ++ unit_text p.second))
 
-ring_long : (d : Decline) (xs : List ℕ) → length xs ≤ 64 → ((k : ℕ) → get_or xs k 0 < 256)
-    → length (codes "no" ++ (field (number_of d) ++ (codes " ring" ++ flat_map field xs))) ≤ 2047
-ring_long d xs few each =
-    let l = joined_long field 4 xs (λ k x h e. omega (arith, byte_long x (omega (arith, each k, get_or_default xs k 0 x h)))) in
-    omega (arith, byte_long (number_of d) (number_small d), length-append (field (number_of d)) (codes " ring" ++ flat_map field xs))
+-- a ring of at most 64 records has at most 261 bytes
+ring_long : (xs : List ℕ) → length xs ≤ 64 → ((k : ℕ) → get_or xs k 0 < 256) → length (ring_text xs) ≤ 261
+ring_long xs few each = go (eqb (length xs) 0)
+  where
+    l : length (flat_map field xs) ≤ 4 * length xs
+    l = joined_long field 4 xs (λ k x h e. omega (arith, byte_long x (omega (arith, each k, get_or_default xs k 0 x h))))
+
+    go : (b : Bool) → length (cond b [] (codes " ring" ++ flat_map field xs)) ≤ 261
+    go true = omega arith
+    go false = omega (arith, l)
+
+ratio_long : (e h : ℕ) → e < 256 → h < 256 → length (ratio_text e h) ≤ 8
+ratio_long e h a b = omega (arith, byte_long e a, byte_long h b, length-append (field e) (codes "/" ++ decimal h))
 
 text_long : (a : Answer) → entries_of a ≤ 64 → Modest a → length (text_of a) ≤ 2047
 text_long Taken few m = omega arith
 text_long (Declined d) few m = omega (arith, byte_long (number_of d) (number_small d))
-text_long (Forced d ring) few m = ring_long d (vec_items ring) (omega (arith, ring.ok.0)) m
+text_long (Forced d ring) few m =
+    omega (arith, ring_long (vec_items ring) (omega (arith, ring.ok.0)) m, byte_long (number_of d) (number_small d), length-append (field (number_of d)) (ring_text (vec_items ring)))
+text_long (Ratio e h ring v) few m =
+    omega (arith, ring_long (vec_items ring) (omega (arith, ring.ok.0)) m.2, ratio_long e h m.0 m.1, length-append (ratio_text e h) (ring_text (vec_items ring)))
 text_long (Wholes v) few m = entries_long whole_text (vec_items v) (omega (arith, v.ok.0)) (λ k g h e. ((m k g h e).0, omega (arith, signed_long g.grade.value (m k g h e).1)))
 text_long (Units v) few m = entries_long unit_text (vec_items v) (omega (arith, v.ok.0)) (λ k g h e. ((m k g h e).0, omega (arith, signed_long g.grade.value (omega (arith, (m k g h e).1)))))
 text_long (Pairs v) few m = entries_long pair_text (vec_items v) (omega (arith, v.ok.0)) (λ k g h e. ((m k g h e).0, pair_long g.grade (m k g h e).1))

@@ -2,20 +2,24 @@
 use Rattle.std.specs.Prelude.{◌≡◌, ℕ, suc, ◌<◌, List, [], ◌++◌, length, take, drop, codes}
 use Rattle.std.specs.List.{flat_map}
 use Rattle.sheet.specs.Meanings.{Meaning}
+use Rattle.layers.specs.Folders.{opened}
 use Rattle.archive.specs.declared.call.Call.{Call}
 use Rattle.archive.specs.declared.answer.Answer.{Answer}
 use Rattle.archive.specs.Right.{AllRight}
+use Rattle.archive.specs.Lessening.{Lessens}
 use Rattle.script.specs.Cuts.{FirstAt, lines_of, Spoken}
 use Rattle.script.specs.Makes.{make_name, NoMake, new_sheet}
 use Rattle.script.specs.Text.{line_of}
 use Rattle.script.specs.declared.make.Make.{Make}
 
--- the opening's line, and then the line of one right answer to each line's call, on a sheet that means m at first
+-- the opening's line, and then the line of one right answer to each line's call, in a new folder over a sheet that means m at first;
+-- and settings aside alone made no ratio greater
 pub record Opened (m : Meaning) (script bytes : List ℕ) : Type 0 where
   pub calls : List Call
   pub answers : List Answer
   pub spoken : Spoken (lines_of script) calls
-  pub right : AllRight m calls answers
+  pub right : AllRight (opened m) calls answers
+  pub lessens : Lessens (opened m) calls answers
   pub printed : bytes ≡ codes "ok\n" ++ flat_map line_of answers
 
 -- an empty script; one whose first line, up to the byte 10 or the end at k, names a make; and any other

@@ -2,14 +2,16 @@
 use Rattle.std.specs.Prelude.{ℕ, List, codes, ◌≢◌}
 use Rattle.sheet.specs.Meanings.{Meaning, empty}
 use Rattle.script.specs.declared.make.Make.{Make}
-use Rattle.script.specs.declared.make.Make.TheVariants.{Bits}
+use Rattle.script.specs.declared.make.Make.TheVariants.{Bits, List as Listing}
 
 abbrev pub make_name : Make → List ℕ
 make_name Bits = codes "bits"
+make_name Listing = codes "list"
 
 abbrev pub NoMake : List ℕ → Type 0
 NoMake line = (m : Make) → line ≢ make_name m
 
--- a new bit sheet has room for 4,032 marks
+-- a new bit sheet has room for 4,032 marks, a new list sheet for 512
 abbrev pub new_sheet : Make → Meaning
 new_sheet Bits = empty 4032
+new_sheet Listing = empty 512

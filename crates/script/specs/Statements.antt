@@ -7,7 +7,7 @@ use Rattle.archive.specs.declared.call.Call.{Call}
 use Rattle.archive.specs.declared.call.Call.TheVariants.{Wrong}
 use Rattle.archive.specs.declared.answer.Graded.{Graded}
 use Rattle.archive.specs.declared.answer.Answer.{Answer}
-use Rattle.archive.specs.declared.answer.Answer.TheVariants.{Taken, Declined, Forced, Wholes, Pairs, Units}
+use Rattle.archive.specs.declared.answer.Answer.TheVariants.{Taken, Declined, Forced, Wholes, Pairs, Units, Ratio}
 use Rattle.script.specs.Lines.{IsLine}
 use Rattle.script.specs.Cuts.{LineCall}
 use Rattle.script.specs.Text.{entries_of, printable}
@@ -29,7 +29,7 @@ abbrev pub ModestEntries : {V : Type 0} → (V → ℕ → Type 0) → List (Gra
 ModestEntries {V} extent xs =
     (k : ℕ) (g : Graded V) → k < length xs → g ≡ slice_index_or xs k g → (g.«record» < 256) × extent g.grade 4096
 
--- so is every entry of the answer; and the records of a ring are below 256
+-- so is every entry of the answer; and the records of a ring, and the numbers of a ratio, are below 256
 abbrev pub Modest : Answer → Type 0
 Modest Taken = Unit {0}
 Modest (Declined d) = Unit {0}
@@ -37,6 +37,7 @@ Modest (Forced d ring) = (k : ℕ) → slice_index (vec_items ring) k < 256
 Modest (Wholes v) = ModestEntries WholeExtent (vec_items v)
 Modest (Pairs v) = ModestEntries (PairExtent WholeExtent UnitExtent) (vec_items v)
 Modest (Units v) = ModestEntries UnitExtent (vec_items v)
+Modest (Ratio e h ring v) = (e < 256) × (h < 256) × ((k : ℕ) → slice_index (vec_items ring) k < 256)
 
 -- an answer of at most 64 such entries is printable
 abbrev pub ModestPrintable : Type 0

@@ -1,5 +1,5 @@
 -- The text of an answer, and what printing it does. Assumes nothing.
-use Rattle.std.specs.Prelude.{◌≡◌, ℕ, ◌<◌, ◌≤◌, Bool, true, false, cond, ◌&&◌, List, [], ◌++◌, length, drop, Ok, Err, vec_items, vec_len, codes, Result, nat_le, slice_index_or}
+use Rattle.std.specs.Prelude.{◌≡◌, ℕ, ◌<◌, ◌≤◌, Bool, true, false, cond, ◌&&◌, List, [], ◌++◌, length, drop, Ok, Err, vec_items, vec_len, codes, decimal, Result, ◌==◌, nat_le, slice_index_or}
 use Rattle.std.specs.Fmt.{signed_decimal}
 use Rattle.std.specs.List.{flat_map}
 use Rattle.model.specs.Refusals.{number_of}
@@ -10,7 +10,7 @@ use Rattle.scale.specs.declared.unit.Unit.{Unit as UnitValue}
 use Rattle.scale.specs.declared.whole.Whole.{Whole}
 use Rattle.archive.specs.declared.answer.Graded.{Graded}
 use Rattle.archive.specs.declared.answer.Answer.{Answer}
-use Rattle.archive.specs.declared.answer.Answer.TheVariants.{Taken, Declined, Forced, Wholes, Pairs, Units}
+use Rattle.archive.specs.declared.answer.Answer.TheVariants.{Taken, Declined, Forced, Wholes, Pairs, Units, Ratio}
 use Rattle.script.specs.Numbers.{field}
 
 -- a grade: "-2", or "-2/1" for a pair
@@ -27,20 +27,29 @@ pair_text p = whole_text p.first ++ (codes "/" ++ unit_text p.second)
 abbrev pub entry_text : {V : Type 0} → (V → List ℕ) → Graded V → List ℕ
 entry_text text g = field g.«record» ++ (codes ":" ++ text g.grade)
 
--- "ok", "no 4", "no 13 ring 0 1 2", "ok 0:-2 1:0"
+-- a ratio: " 1/2"
+abbrev pub ratio_text : ℕ → ℕ → List ℕ
+ratio_text e h = field e ++ (codes "/" ++ decimal h)
+
+-- a ring: " ring 0 2 1", and nothing where it has no records
+abbrev pub ring_text : List ℕ → List ℕ
+ring_text xs = cond (length xs == 0) [] (codes " ring" ++ flat_map field xs)
+
+-- "ok", "no 4", "no 13 ring 0 1 2", "ok 0:-2 1:0", "ok 1/2 ring 0 2 1", "ok 0/1"
 abbrev pub text_of : Answer → List ℕ
 text_of Taken = codes "ok"
 text_of (Declined d) = codes "no" ++ field (number_of d)
-text_of (Forced d ring) = codes "no" ++ (field (number_of d) ++ (codes " ring" ++ flat_map field (vec_items ring)))
+text_of (Forced d ring) = codes "no" ++ (field (number_of d) ++ ring_text (vec_items ring))
 text_of (Wholes v) = codes "ok" ++ flat_map (entry_text whole_text) (vec_items v)
 text_of (Pairs v) = codes "ok" ++ flat_map (entry_text pair_text) (vec_items v)
 text_of (Units v) = codes "ok" ++ flat_map (entry_text unit_text) (vec_items v)
+text_of (Ratio e h ring v) = codes "ok" ++ (ratio_text e h ++ ring_text (vec_items ring))
 
 -- byte 10 ends the line
 abbrev pub line_of : Answer → List ℕ
 line_of a = text_of a ++ codes "\n"
 
--- how many records an answer lists
+-- how many records an answer lists: a ratio lists those of its ring
 abbrev pub entries_of : Answer → ℕ
 entries_of Taken = 0
 entries_of (Declined d) = 0
@@ -48,6 +57,7 @@ entries_of (Forced d ring) = vec_len ring
 entries_of (Wholes v) = vec_len v
 entries_of (Pairs v) = vec_len v
 entries_of (Units v) = vec_len v
+entries_of (Ratio e h ring v) = vec_len ring
 
 -- at most 64 records, on a line of at most 2,048 bytes
 abbrev pub printable : Answer → Bool

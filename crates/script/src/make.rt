@@ -5,6 +5,7 @@ ghost use Rattle.script.specs.Makes.{make_name, NoMake};
 #[derive(Clone, Copy)]
 pub enum Make {
     Bits,
+    List,
 }
 
 pub fn make_in(line: &[u8]) -> Option<Make>
@@ -12,6 +13,7 @@ pub fn make_in(line: &[u8]) -> Option<Make>
 {
     match line {
         b"bits" => Some(Make::Bits),
+        b"list" => Some(Make::List),
         _ => None,
     }
 }

@@ -3,7 +3,7 @@
 ghost use Rattle.std.specs.Prelude.{◌≡◌, MatchOption};
 ghost use Rattle.script.specs.Numbers.{Field, NoField};
 ghost use Rattle.script.specs.Cuts.{LastAt, NoneAt};
-ghost use Rattle.script.specs.Lines.{clip as clipped, Fields, NoFields, IsLine, NoLine};
+ghost use Rattle.script.specs.Lines.{clip as clipped, Fields, NoFields, RecordField, RecordFields, ThresholdFields, IsLine, NoLine};
 
 use crate::number::number_in;
 use archive::call::Call;
@@ -42,18 +42,49 @@ fn two(bytes: &[u8]) -> Option<(u32, u32)>
     one(left).zip(one(right))
 }
 
+// A record, two records, and two thresholds.
+fn record(bytes: &[u8]) -> Option<u8>
+    ensures { MatchOption result (NoField bytes.now) (RecordField bytes.now) }
+{
+    Some(clip(one(bytes)?))
+}
+
+fn records(bytes: &[u8]) -> Option<(u8, u8)>
+    ensures { MatchOption result (NoFields 2 bytes.now) (λ p. RecordFields bytes.now p.0 p.1) }
+{
+    let (u, v) = two(bytes)?;
+    Some((clip(u), clip(v)))
+}
+
+fn thresholds(bytes: &[u8]) -> Option<Thresholds>
+    ensures { MatchOption result (NoFields 2 bytes.now) (ThresholdFields bytes.now) }
+{
+    let (t1, t2) = two(bytes)?;
+    Some(Thresholds { t1, t2 })
+}
+
 // The call that a line stands for: Some(c) exactly where the line is of the form for c.
+#[tactic(auto, using(crate::proofs::Lettered::enter_line, crate::proofs::Lettered::mark_line, crate::proofs::Lettered::strike_line, crate::proofs::Lettered::aside_line, crate::proofs::Lettered::back_line, crate::proofs::Lettered::loose_line, crate::proofs::Lettered::strict_line, crate::proofs::Lettered::units_line, crate::proofs::Lettered::ratio_line))]
 pub fn parse(line: &[u8]) -> Option<Call>
     ensures { MatchOption result (NoLine line.now) (IsLine line.now) }
 {
     let (letter, rest) = line.split_first()?;
     match *letter as char {
-        'e' => one(rest).map(|u| Call::Enter(clip(u))),
-        'm' => two(rest).map(|(u, v)| Call::Mark(clip(u), clip(v))),
-        's' => two(rest).map(|(u, v)| Call::Strike(clip(u), clip(v))),
-        'g' => two(rest).map(|(t1, t2)| Call::Loose(Thresholds { t1, t2 })),
-        'h' => two(rest).map(|(t1, t2)| Call::Strict(Thresholds { t1, t2 })),
-        'o' => rest.is_empty().then_some(Call::Unit),
+        'e' => Some(Call::Enter(record(rest)?)),
+        'm' => {
+            let (u, v) = records(rest)?;
+            Some(Call::Mark(u, v))
+        }
+        's' => {
+            let (u, v) = records(rest)?;
+            Some(Call::Strike(u, v))
+        }
+        'a' => Some(Call::SetAside(record(rest)?)),
+        'b' => Some(Call::BringBack(record(rest)?)),
+        'g' => Some(Call::Loose(thresholds(rest)?)),
+        'h' => Some(Call::Strict(thresholds(rest)?)),
+        'o' if rest.is_empty() => Some(Call::Unit),
+        'r' if rest.is_empty() => Some(Call::Ratio),
         _ => None,
     }
 }

@@ -3,10 +3,10 @@
 ghost use Rattle.std.specs.Prelude.{◌≡◌, ◌++◌, codes, MatchResult, false};
 ghost use Rattle.std.specs.List.{flat_map};
 ghost use Rattle.script.specs.Puts.{Put};
-ghost use Rattle.script.specs.Text.{text_of, entries_of, printable, Lined, Printed};
+ghost use Rattle.script.specs.Text.{ratio_text, ring_text, text_of, entries_of, printable, Lined, Printed};
 
 use crate::spell::{Spelled, put_all};
-use crate::write::{Line, put_text};
+use crate::write::{Line, put_number, put_text};
 use archive::answer::Answer;
 use arrayvec::CapacityError;
 use model::decline::Decline;
@@ -17,7 +17,7 @@ fn entries_in(answer: &Answer) -> usize
 {
     match answer {
         Answer::Taken | Answer::Declined(_) => 0,
-        Answer::Forced(_, ring) => ring.len(),
+        Answer::Forced(_, ring) | Answer::Ratio { ring, .. } => ring.len(),
         Answer::Wholes(entries) => entries.len(),
         Answer::Pairs(entries) => entries.len(),
         Answer::Units(entries) => entries.len(),
@@ -30,6 +30,26 @@ fn put_grades<T: Spelled>(line: &mut Line, entries: &[T]) -> Result<(), Capacity
 {
     put_text(line, b"ok")?;
     put_all(line, entries)
+}
+
+// A ring: its word and its records, and nothing where there are none.
+fn put_ring(line: &mut Line, ring: &[u8]) -> Result<(), CapacityError>
+    ensures { Put line.old.items (ring_text ring.now) line.new.items result }
+{
+    if ring.is_empty() {
+        return Ok(());
+    }
+    put_text(line, b" ring")?;
+    put_all(line, ring)
+}
+
+// Marks to hops.
+fn put_ratio(line: &mut Line, marks: u8, hops: u8) -> Result<(), CapacityError>
+    ensures { Put line.old.items (ratio_text marks hops) line.new.items result }
+{
+    marks.put(line)?;
+    put_text(line, b"/")?;
+    put_number(line, hops)
 }
 
 // The text of an answer.
@@ -45,12 +65,21 @@ fn put_answer(line: &mut Line, answer: &Answer) -> Result<(), CapacityError>
         Answer::Forced(d, ring) => {
             put_text(line, b"no")?;
             d.number().put(line)?;
-            put_text(line, b" ring")?;
-            put_all(line, ring)
+            put_ring(line, ring)
         }
         Answer::Wholes(entries) => put_grades(line, entries),
         Answer::Pairs(entries) => put_grades(line, entries),
         Answer::Units(entries) => put_grades(line, entries),
+        Answer::Ratio {
+            marks,
+            hops,
+            ring,
+            ..
+        } => {
+            put_text(line, b"ok")?;
+            put_ratio(line, *marks, *hops)?;
+            put_ring(line, ring)
+        }
     }
 }
 
