@@ -1,9 +1,11 @@
 // Runs scripts that go to the edges of the rules, and shows each with its answers.
 #![tactic(auto)]
 
+mod piles;
 #[cfg(test)]
 mod tests;
 
+use crate::piles::piles;
 use script::run::run;
 use std::io;
 use std::io::Write;
@@ -19,7 +21,8 @@ fn openings(rt: &HostRuntime) -> io::Result<()> {
     trial(rt, "an empty first line", b"\ne 0\n")?;
     trial(rt, "another first line", b"bit\ne 0\n")?;
     trial(rt, "a space after the make", b"bits \ne 0\n")?;
-    trial(rt, "a make that is not built", b"list\ne 0\n")?;
+    trial(rt, "the other make", b"list\ne 0\n")?;
+    trial(rt, "both makes", b"list bits\n")?;
     trial(rt, "the make alone", b"bits\n")?;
     trial(rt, "the make alone, without byte 10", b"bits")?;
     trial(rt, "a last line without byte 10", b"bits\ne 0\ne 0")
@@ -34,7 +37,7 @@ fn wrong_lines(rt: &HostRuntime) -> io::Result<()> {
     trial(
         rt,
         "too few and too many numbers",
-        b"bits\ne\nm 1\ng 1\no 1\ne 1 2\nm 1 2 3\n",
+        b"bits\ne\nm 1\ng 1\no 1\nr 1\na\nb 1 2\ne 1 2\nm 1 2 3\n",
     )?;
     trial(rt, "spaces", b"bits\ne  1\ne 1 \n e 1\ne\t1\ne1\ne 1\r\n")?;
     trial(
@@ -42,7 +45,6 @@ fn wrong_lines(rt: &HostRuntime) -> io::Result<()> {
         "digits",
         b"bits\ne 01\ne 00\ne -1\ne +1\ne 1a\ne 12345678\n",
     )?;
-    trial(rt, "not built yet", b"bits\na 0\nb 0\nr\n")?;
     trial(
         rt,
         "a line of 80 bytes, and one of 81",
@@ -66,6 +68,19 @@ fn declined_calls(rt: &HostRuntime) -> io::Result<()> {
         rt,
         "limits",
         b"bits\ng 0 0\ng 1 0\ng 1000000 1000000\ng 1000001 0\ng 1 1000001\nh 0 1\nh 9999999 0\n",
+    )
+}
+
+fn setting_aside(rt: &HostRuntime) -> io::Result<()> {
+    trial(
+        rt,
+        "set aside and bring back",
+        b"list\na 64\nb 64\na 0\nb 0\ne 0\nb 0\na 0\na 0\ne 0\nb 0\nb 0\n",
+    )?;
+    trial(
+        rt,
+        "marks of a record that is aside",
+        b"list\ne 0\ne 1\ne 2\nm 0 1\na 1\nm 0 1\ns 0 1\nm 2 1\ng 1 0\nb 1\nm 0 1\ng 1 1\ns 0 1\n",
     )
 }
 
@@ -93,9 +108,44 @@ fn gradings(rt: &HostRuntime) -> io::Result<()> {
     )
 }
 
+// The least ratio of some folders, with the loose gradings just below it and at it.
+fn ratios(rt: &HostRuntime) -> io::Result<()> {
+    trial(rt, "no records", b"bits\nr\n")?;
+    trial(rt, "two records, no mark", b"bits\ne 0\ne 1\nr\ng 1 0\n")?;
+    trial(rt, "one mark alone", b"bits\ne 0\ne 1\nm 0 1\nr\n")?;
+    trial(
+        rt,
+        "a path, and less of it",
+        b"list\ne 0\ne 1\ne 2\ne 3\nm 0 1\nm 1 2\nm 2 3\nr\ng 1 3\ng 1 2\na 3\nr\nb 3\na 1\nr\n",
+    )?;
+    trial(
+        rt,
+        "a circle of two",
+        b"bits\ne 0\ne 1\nm 0 1\nm 1 0\nr\na 1\nr\n",
+    )?;
+    trial(
+        rt,
+        "a circle of three, and more that stands",
+        b"list\ne 5\ne 9\ne 7\ne 2\nm 9 5\nm 5 7\nm 7 9\nm 2 5\nr\ns 7 9\nr\n",
+    )?;
+    trial(
+        rt,
+        "two marks apart, not reduced",
+        b"bits\ne 0\ne 1\ne 2\ne 3\nm 0 1\nm 2 3\nr\ng 2 2\n",
+    )?;
+    trial(
+        rt,
+        "all six upward, and one unmarked",
+        b"bits\ne 0\ne 1\ne 2\ne 3\ne 4\nm 0 1\nm 0 2\nm 0 3\nm 1 2\nm 1 3\nm 2 3\nr\ng 2 3\ng 3 4\n",
+    )
+}
+
 fn main(rt: HostRuntime) -> io::Result<()> {
     openings(&rt)?;
     wrong_lines(&rt)?;
     declined_calls(&rt)?;
-    gradings(&rt)
+    setting_aside(&rt)?;
+    gradings(&rt)?;
+    ratios(&rt)?;
+    piles(&rt)
 }
