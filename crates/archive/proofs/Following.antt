@@ -10,18 +10,17 @@ use Rattle.sheet.specs.Views.{view_in}
 use Rattle.sheet.proofs.Checking.{called_by}
 use Rattle.layers.specs.Folders.{Account, seen, aside_check, back_check, entered_in, marked_in, struck_in, set_aside, brought_back}
 use Rattle.archive.specs.declared.call.Call.{Call}
-use Rattle.archive.specs.declared.call.Call.TheVariants.{Enter, Mark, Strike, SetAside, BringBack}
+use Rattle.archive.specs.declared.call.Call.TheVariants.{Enter, Mark, Strike, SetAside, BringBack, Loose, Strict, Unit as Units, Ratio, Wrong}
 use Rattle.archive.specs.declared.answer.Answer.{Answer}
 use Rattle.archive.specs.Accounts.{told, stands_in, next}
-use Rattle.archive.specs.Right.{Tells, Plain, Right}
-use Rattle.archive.specs.Following.{Tidy, Followed}
+use Rattle.archive.specs.declared.answer.Answer.TheVariants.{Declined}
+use Rattle.model.specs.declared.decline.Decline.TheVariants.{WrongLine}
+use Rattle.model.specs.declared.thresholds.Thresholds.{Thresholds}
+use Rattle.archive.specs.Told.{LooseTold, StrictTold, UnitTold, RatioTold}
+use Rattle.archive.specs.Right.{Tells, Plain, declined, Right}
+use Rattle.archive.specs.Following.{Tidy, Followed, Answered}
 use Rattle.archive.proofs.Plainly.{plainly}
 use Rattle.archive.proofs.Tidying.{seen_told, entered_noted, tidy_noted, tidy_aside, tidy_back}
-
--- one call takes the account a to b, and is answered by r
-pub record Answered (a : Account) (c : Call) (b : Account) (r : Result Answer AllocError) : Type 0 where
-  pub follows : Tidy a → Followed a c b
-  pub right : Tidy a → IfOk r (Right a c)
 
 -- A call told by what is seen: with a tidy account it is told by the account too, since both tell the same.
 -- `check` is its first failed check by either, `changed` what the folder makes of the account, and `wanted` what the rules ask.
@@ -45,25 +44,44 @@ module _ {a b changed wanted : Account} {r : Result (Unit {0}) Decline} {x : Ans
 
 -- the five calls that may change a folder
 module _ {a b : Account} {r : Result (Unit {0}) Decline} {x : Answer} {c : Call} where
-  pub enter_answered : (u : ℕ) → c ≡ Enter u → Called (enter_check (seen a) u) a (entered_in a u) b r → Tells r x → Answered a c b (Ok x)
-  enter_answered u is = answered (λ m. enter_check m u) is refl (λ y p. p) (entered_noted a u) (λ tidy e. tidy_noted a u tidy)
+  pub enter_answered : {u : ℕ} → c ≡ Enter u → Called (enter_check (seen a) u) a (entered_in a u) b r → Tells r x → Answered a c b (Ok x)
+  enter_answered {u = u} is = answered (λ m. enter_check m u) is refl (λ y p. p) (entered_noted a u) (λ tidy e. tidy_noted a u tidy)
 
-  pub mark_answered : (u v : ℕ) → c ≡ Mark u v → Called (mark_check (seen a) u v) a (marked_in a u v) b r → Tells r x → Answered a c b (Ok x)
-  mark_answered u v is = answered (λ m. mark_check m u v) is refl (λ y p. p) (λ e. refl) (λ tidy e. tidy)
+  pub mark_answered : {u v : ℕ} → c ≡ Mark u v → Called (mark_check (seen a) u v) a (marked_in a u v) b r → Tells r x → Answered a c b (Ok x)
+  mark_answered {u = u} {v = v} is = answered (λ m. mark_check m u v) is refl (λ y p. p) (λ e. refl) (λ tidy e. tidy)
 
-  pub strike_answered : (u v : ℕ) → c ≡ Strike u v → Called (strike_check (seen a) u v) a (struck_in a u v) b r → Tells r x → Answered a c b (Ok x)
-  strike_answered u v is = answered (λ m. strike_check m u v) is refl (λ y p. p) (λ e. refl) (λ tidy e. tidy)
+  pub strike_answered : {u v : ℕ} → c ≡ Strike u v → Called (strike_check (seen a) u v) a (struck_in a u v) b r → Tells r x → Answered a c b (Ok x)
+  strike_answered {u = u} {v = v} is = answered (λ m. strike_check m u v) is refl (λ y p. p) (λ e. refl) (λ tidy e. tidy)
 
-  pub aside_answered : (u : ℕ) → c ≡ SetAside u → Called (aside_check (seen a) u) a (set_aside a u) b r → Tells r x → Answered a c b (Ok x)
-  aside_answered u is = answered (λ m. aside_check m u) is refl (λ y p. p) (λ e. refl) (λ tidy e. tidy_aside a u tidy e)
+  pub aside_answered : {u : ℕ} → c ≡ SetAside u → Called (aside_check (seen a) u) a (set_aside a u) b r → Tells r x → Answered a c b (Ok x)
+  aside_answered {u = u} is = answered (λ m. aside_check m u) is refl (λ y p. p) (λ e. refl) (λ tidy e. tidy_aside a u tidy e)
 
-  pub back_answered : (u : ℕ) → c ≡ BringBack u → Called (back_check (seen a) a.own u) a (brought_back a u) b r → Tells r x → Answered a c b (Ok x)
-  back_answered u is = answered (λ m. back_check m a.own u) is refl (λ y p. p) (λ e. refl) (λ tidy e. tidy_back a u tidy)
+  pub back_answered : {u : ℕ} → c ≡ BringBack u → Called (back_check (seen a) a.own u) a (brought_back a u) b r → Tells r x → Answered a c b (Ok x)
+  back_answered {u = u} is = answered (λ m. back_check m a.own u) is refl (λ y p. p) (λ e. refl) (λ tidy e. tidy_back a u tidy)
 
 -- a grading of what is seen is one of what the account says stands, and changes nothing
-module _ {c kind : Call} (a : Account) (r : Result Answer AllocError) where
-  pub grading_answered : (P : View → Answer → Type 0) → c ≡ kind → next a kind ≡ a → (IfOk r (P (stands_in a)) → IfOk r (Right a kind)) → IfOk r (P (view_in (seen a))) → Answered a c a r
-  grading_answered P is same rights told_of = record {
+module _ {a : Account} {c : Call} {r : Result Answer AllocError} where
+  grading_answered : (kind : Call) (P : View → Answer → Type 0) → c ≡ kind → next a kind ≡ a → (IfOk r (P (stands_in a)) → IfOk r (Right a kind)) → IfOk r (P (view_in (seen a))) → Answered a c a r
+  grading_answered kind P is same rights told_of = record {
     follows = λ tidy. record { account = sym (ap (next a) is ∙ same); tidy = tidy };
     right = λ tidy. subst (λ (k : Call). IfOk r (Right a k)) (sym is) (rights (subst (λ (m : Meaning). IfOk r (P (view_in m))) (seen_told a tidy) told_of));
   }
+
+  pub loose_answered : {t : Thresholds} → c ≡ Loose t → IfOk r (LooseTold (view_in (seen a)) t) → Answered a c a r
+  loose_answered {t = t} is = grading_answered (Loose t) (λ w. LooseTold w t) is refl (λ m. m)
+
+  pub strict_answered : {t : Thresholds} → c ≡ Strict t → IfOk r (StrictTold (view_in (seen a)) t) → Answered a c a r
+  strict_answered {t = t} is = grading_answered (Strict t) (λ w. StrictTold w t) is refl (λ m. m)
+
+  pub units_answered : c ≡ Units → IfOk r (UnitTold (view_in (seen a))) → Answered a c a r
+  units_answered is = grading_answered Units UnitTold is refl (λ m. m)
+
+  pub ratio_answered : c ≡ Ratio → IfOk r (RatioTold (view_in (seen a))) → Answered a c a r
+  ratio_answered is = grading_answered Ratio RatioTold is refl (λ m. m)
+
+-- a wrong line
+pub wrong_answered : {a : Account} {c : Call} → c ≡ Wrong → Answered a c a (Ok (Declined WrongLine))
+wrong_answered {a} is = record {
+  follows = λ tidy. record { account = ap (next a) (sym is); tidy = tidy };
+  right = λ tidy. subst (λ (k : Call). Right a k (Declined WrongLine)) (sym is) (declined WrongLine refl);
+}

@@ -1,5 +1,7 @@
 -- One call more of a list. Assumes nothing.
-use Rattle.std.proofs.Common.{◌≡◌, ℕ, zero, suc, ◌+◌, ◌<◌, List, [], ◌∷◌, length, get_or, take, refl, ap, ◌∙◌, add-one, arith, below_more}
+use Rattle.std.proofs.Common.{◌≡◌, ℕ, zero, suc, ◌+◌, ◌<◌, List, [], ◌∷◌, ◌++◌, length, get_or, take, sym, refl, ap, ◌∙◌, add-one, arith, below_more}
+use Rattle.std.proofs.lemmas.List.{get_or_append_left}
+use Rattle.std.proofs.Math.Seq.{get_or-append_seam}
 use Rattle.layers.specs.Folders.{Account}
 use Rattle.archive.specs.declared.call.Call.{Call}
 use Rattle.archive.specs.Accounts.{next, run}
@@ -14,8 +16,10 @@ pub run_more : (a : Account) (cs : List Call) (i : ℕ) (d : Call) → i < lengt
 run_more a cs i d h = ap (λ (n : ℕ). run a (take n cs)) (add-one i) ∙ run_next a cs i d h
 
 -- one more at the end of a list, of which each place has its fact
-pub each_push : {X : Type 0} (P : ℕ → X → Type 0) (xs ys : List X) (n : ℕ) (x d : X)
-    → ((k : ℕ) → k < n → get_or ys k d ≡ get_or xs k d) → get_or ys n d ≡ x → P n x
+pub each_push : {X : Type 0} (P : ℕ → X → Type 0) (xs : List X) (n : ℕ) (x d : X) {ys : List X} → length xs ≡ n → ys ≡ xs ++ (x ∷ []) → P n x
     → ((k : ℕ) → k < n → P k (get_or xs k d)) → (k : ℕ) → k < n + 1 → P k (get_or ys k d)
-each_push P xs ys n x d same here right all =
-    below_more (λ k. P k (get_or ys k d)) n (λ k h. rw (same k h) (all k h)) (rw here right)
+each_push P xs n x d {ys = ys} long is right all =
+    below_more (λ k. P k (get_or ys k d)) n (λ k h. rw is (rw (get_or_append_left xs (x ∷ []) d k (omega arith)) (all k h))) (rw is (rw last right))
+  where
+    last : get_or (xs ++ (x ∷ [])) n d ≡ x
+    last = ap (λ (i : ℕ). get_or (xs ++ (x ∷ [])) i d) (sym long) ∙ get_or-append_seam xs x [] d

@@ -1,5 +1,6 @@
 -- A folder follows the account. Assumes nothing.
-use Rattle.std.specs.Prelude.{◌≡◌, ℕ, true, List, ◌≢◌}
+use Rattle.std.specs.Prelude.{◌≡◌, ℕ, true, List, IfOk, Result, ◌≢◌}
+use Rattle.std.specs.declared.alloc.AllocError.{AllocError}
 use Rattle.sheet.specs.declared.state.State.TheVariants.{Absent}
 use Rattle.sheet.specs.declared.meaning.Sheet.{Ghosts}
 use Rattle.sheet.specs.Views.{meaning_of}
@@ -9,7 +10,7 @@ use Rattle.layers.specs.FolderCalls.{account_of}
 use Rattle.archive.specs.declared.call.Call.{Call}
 use Rattle.archive.specs.declared.answer.Answer.{Answer}
 use Rattle.archive.specs.Accounts.{told, next, run}
-use Rattle.archive.specs.Right.{AllRight}
+use Rattle.archive.specs.Right.{Right, AllRight}
 use Rattle.archive.specs.Lessening.{Lessens}
 
 -- no absent number is in the set: so it is at the opening, and after every call
@@ -20,6 +21,11 @@ Tidy a = (u : ℕ) → a.own u ≡ true → a.below.states u ≢ Absent
 pub record Followed (a : Account) (c : Call) (b : Account) : Type 0 where
   pub account : b ≡ next a c
   pub tidy : Tidy b
+
+-- and is answered by r: both where no absent number is in the set, as is so after every list of calls
+pub record Answered (a : Account) (c : Call) (b : Account) (r : Result Answer AllocError) : Type 0 where
+  pub follows : Tidy a → Followed a c b
+  pub right : Tidy a → IfOk r (Right a c)
 
 -- a new folder over the sheet `below`, after all calls: it has what the account has, and answers each question as the account
 -- tells it; each call was answered rightly; and settings aside alone made no ratio greater

@@ -1,8 +1,8 @@
 // A list of calls on a new folder over a sheet of any make, with all their answers.
-ghost use Rattle.std.specs.Prelude.{IfOk};
+ghost use Rattle.std.specs.Prelude.{◌≡◌, [], ◌∷◌, ◌++◌, IfOk, OnOk};
 ghost use Rattle.layers.specs.FolderCalls.{account_of};
-ghost use Rattle.archive.specs.Right.{Tells, Right};
-ghost use Rattle.archive.specs.Following.{Tidy, Followed, Replayed};
+ghost use Rattle.archive.specs.Right.{Tells};
+ghost use Rattle.archive.specs.Following.{Answered, Replayed};
 
 use crate::answer::Answer;
 use crate::call::Call;
@@ -29,9 +29,9 @@ impl From<Result<(), Decline>> for Answer {
 }
 
 // One call: what it makes of the folder's account, and its answer.
+#[tactic(auto, using(crate::proofs::Following::enter_answered, crate::proofs::Following::mark_answered, crate::proofs::Following::strike_answered, crate::proofs::Following::aside_answered, crate::proofs::Following::back_answered, crate::proofs::Following::loose_answered, crate::proofs::Following::strict_answered, crate::proofs::Following::units_answered, crate::proofs::Following::ratio_answered, crate::proofs::Following::wrong_answered))]
 fn answer<S: Sheet>(heap: Global, folder: &mut Folder<S>, call: Call) -> Result<Answer, AllocError>
-    ensures follows { Tidy (account_of S.Sheet folder.old) → Followed (account_of S.Sheet folder.old) call (account_of S.Sheet folder.new) }
-    ensures right { Tidy (account_of S.Sheet folder.old) → IfOk result (Right (account_of S.Sheet folder.old) call) }
+    ensures { Answered (account_of S.Sheet folder.old) call (account_of S.Sheet folder.new) result }
 {
     match call {
         Call::Enter(u) => Ok(folder.enter_here(u).into()),
@@ -52,6 +52,14 @@ fn answer<S: Sheet>(heap: Global, folder: &mut Folder<S>, call: Call) -> Result<
     }
 }
 
+// Each call has its answer in the list, a declined one too.
+fn keep(answers: &mut Vec<Answer>, given: Answer) -> Result<(), AllocError>
+    ensures { OnOk result (answers.new.items ≡ answers.old.items ++ (given ∷ [])) }
+{
+    answers.push(given)?;
+    Ok(())
+}
+
 // Opens a new folder over the sheet, and takes all calls in their order: the folder after them, and every answer.
 pub fn replay<S: Sheet + Drop>(
     heap: Global,
@@ -64,7 +72,7 @@ pub fn replay<S: Sheet + Drop>(
     let mut answers = Vec::new(heap);
     for call in calls {
         let given = answer(heap, &mut folder, *call)?;
-        answers.push(given)?;
+        keep(&mut answers, given)?;
     }
     Ok((folder, answers))
 }

@@ -1,4 +1,4 @@
-use Rattle.std.proofs.Common.{ℕ, get_or, take, vec_items, sym, refl, ap, ◌∙◌, subst, arith, take_all}
+use Rattle.std.proofs.Common.{[], ◌∷◌, length, length-append, get_or, take, vec_items, sym, refl, ap, ◌∙◌, subst, arith, take_all}
 use Rattle.sheet.specs.Views.{meaning_of}
 use Rattle.layers.specs.Folders.{Account, opened}
 use Rattle.layers.specs.FolderCalls.{account_of}
@@ -15,7 +15,7 @@ use Rattle.archive.proofs.replay.replay.Goals as goal
 pub loop-call-init : goal.loop-call-init
 unfolding run
 loop-call-init g c =
-    (refl, subst Tidy (sym c.new-folder.ensures.account) (opened_tidy (meaning_of g.S.Sheet c.args.sheet)), c.new-answers.ensures.len, (λ k l. absurd (omega arith)))
+    (refl, subst Tidy (sym c.new-folder.ensures.account) (opened_tidy (meaning_of g.S.Sheet c.args.sheet)), ap length c.new-answers.ensures.items, (λ k l. absurd (omega arith)))
 
 pub loop-call-preserved : goal.loop-call-preserved
 loop-call-preserved g c =
@@ -26,16 +26,13 @@ loop-call-preserved g c =
     let inv = c.loop-call.invariant in
     let now = c.in_ok-given.ensures in
     let followed = now.follows inv.1 in
-    let put = c.in_ok-push.ensures in
     let xs = vec_items c.loop-call.answers in
-    let ys = vec_items c.push.new.self in (
+    let given = c.in_ok-given.given in (
       followed.account ∙ ap (λ (b : Account). next b call) inv.0 ∙ sym (run_more a cs i (Enter 0) c.loop-call-test.true),
       followed.tidy,
-      omega (arith, put.len, inv.2),
-      each_push (λ k x. Right (run a (take k cs)) (get_or cs k (Enter 0)) x) xs ys i c.in_ok-given.given Taken
-          (λ k h. put.by_index.0 k Taken (omega (arith, inv.2)))
-          (ap (λ (n : ℕ). get_or ys n Taken) (sym inv.2) ∙ put.by_index.1 Taken refl)
-          (subst (λ (b : Account). Right b call c.in_ok-given.given) inv.0 (now.right inv.1))
+      ap length c.in_ok-keep.ensures ∙ omega (arith, inv.2, length-append xs (given ∷ [])),
+      each_push (λ k x. Right (run a (take k cs)) (get_or cs k (Enter 0)) x) xs i given Taken inv.2 c.in_ok-keep.ensures
+          (subst (λ (b : Account). Right b call given) inv.0 (now.right inv.1))
           inv.3,
     )
 
