@@ -83,17 +83,18 @@ fn put_answer(line: &mut Line, answer: &Answer) -> Result<(), CapacityError>
     }
 }
 
-// Fills a line anew with that of an answer: its text, and byte 10. Refused where the answer lists more than 64 records,
-// and where its line is longer than 2,048 bytes.
-pub(crate) fn fill(line: &mut Line, answer: &Answer) -> Result<(), CapacityError>
-    ensures { MatchResult result (λ _. Lined answer.now line.new.items) (λ _. printable answer.now ≡ false) }
+// The line of an answer: its text, and byte 10. Refused where the answer lists more than 64 records, and where its line is
+// longer than 2,048 bytes.
+fn line_of(answer: &Answer) -> Result<Line, CapacityError>
+    ensures { MatchResult result (λ line. Lined answer.now line.items) (λ _. printable answer.now ≡ false) }
 {
     if entries_in(answer) > 64 {
         return Err(CapacityError::new(()));
     }
-    line.clear();
-    put_answer(line, answer)?;
-    put_text(line, b"\n")
+    let mut line = Line::new();
+    put_answer(&mut line, answer)?;
+    put_text(&mut line, b"\n")?;
+    Ok(line)
 }
 
 // Writes an answer's line at the front of `out` and answers its length, since the caller brings the memory. Declined by 1
@@ -104,8 +105,7 @@ pub fn print(answer: &Answer, out: &mut [u8]) -> Result<usize, Decline>
     if out.len() < 2048 {
         return Err(Decline::TooLittleMemory);
     }
-    let mut line = Line::new();
-    fill(&mut line, answer).map_err(|_| Decline::TooLittleMemory)?;
+    let line = line_of(answer).map_err(|_| Decline::TooLittleMemory)?;
     out[..line.len()].copy_from_slice(&line);
     Ok(line.len())
 }

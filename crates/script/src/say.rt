@@ -2,17 +2,17 @@
 ghost use Rattle.std.specs.Prelude.{◌≡◌, ◌++◌, IfOk, OnOk};
 ghost use Rattle.script.specs.Text.{said, AllSaid};
 
-use crate::print::fill;
-use crate::write::Line;
+use crate::print::print;
 use archive::answer::Answer;
 use std::alloc::{AllocError, Global};
 
-// One answer's line at the end; nothing where it has no line. The line that it is put together in is of no use after.
-fn say(line: &mut Line, out: &mut Vec<u8>, answer: &Answer) -> Result<(), AllocError>
+// One answer's line at the end; nothing where it has no line.
+fn say(out: &mut Vec<u8>, answer: &Answer) -> Result<(), AllocError>
     ensures { OnOk result (out.new.items ≡ out.old.items ++ said answer.now) }
 {
-    match fill(line, answer) {
-        Ok(()) => out.extend_from_slice(line),
+    let mut line = [0; 2048];
+    match print(answer, &mut line) {
+        Ok(n) => out.extend_from_slice(&line[..n]),
         Err(_) => Ok(()),
     }
 }
@@ -21,10 +21,9 @@ fn say(line: &mut Line, out: &mut Vec<u8>, answer: &Answer) -> Result<(), AllocE
 pub fn say_all(heap: Global, answers: &[Answer]) -> Result<Vec<u8>, AllocError>
     ensures { IfOk result (λ v. AllSaid answers.now v.items) }
 {
-    let mut line = Line::new();
     let mut out = Vec::new(heap);
     for answer in answers {
-        say(&mut line, &mut out, answer)?;
+        say(&mut out, answer)?;
     }
     Ok(out)
 }
