@@ -1,0 +1,9 @@
+pub mod Tests
+pub mod Covers
+pub mod Rings
+pub mod Bests
+pub mod Grades
+pub mod Only
+pub mod Results
+pub mod Releases
+pub mod Samples

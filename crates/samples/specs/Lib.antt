@@ -1,0 +1,3 @@
+pub mod Folders
+pub mod Results
+pub mod Statements
