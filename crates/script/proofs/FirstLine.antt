@@ -1,5 +1,5 @@
 -- The first line of some bytes, and its call before the calls of the other lines.
-use Rattle.std.proofs.Common.{◌≡◌, ℕ, zero, suc, ◌+◌, ◌-◌, ◌<◌, ◌≤◌, min, eqb, List, [], ◌∷◌, ◌++◌, length, get_or, take, drop, Some, None, Option, MatchOption, sym, refl, ap, ◌∙◌, subst, ap₂, ⊎_elim, arith}
+use Rattle.std.proofs.Common.{◌≡◌, ℕ, zero, suc, ◌+◌, ◌-◌, ◌<◌, ◌≤◌, ◌⊎◌, inl, inr, min, eqb, List, [], ◌∷◌, ◌++◌, length, get_or, take, drop, Some, None, Option, MatchOption, sym, refl, ap, ◌∙◌, subst, ap₂, ⊎_elim, arith}
 use Rattle.std.specs.List.{IsFirstMatchOrLen}
 use Rattle.std.proofs.lemmas.List.{append_assoc, append-nil, take_at, drop_at, take_min, take_all, take-append-le, take-append-drop, get_or-take, length-take, length-drop, nil_from_length}
 use Rattle.std.proofs.lemmas.Bool.{ne_eqb, eq-eqb, eqb-true, eqb-false, cond-true, cond-false, cases_lt}
@@ -71,6 +71,15 @@ module _ (bs line : List ℕ) (f : FirstLine bs line) where
       (λ (h : f.k < length bs). let e : length line ≡ suc f.k = omega (arith, line_long) in ap (λ (n : ℕ). drop n bs) e)
       (λ (h : length bs ≤ f.k). nil_from_length (drop (length line) bs) (omega (arith, line_long, length-drop (length line) bs)) ∙ sym (nil_from_length (drop (suc f.k) bs) (omega (arith, length-drop (suc f.k) bs))))
       (cases_lt f.k (length bs))
+
+-- there is one first place only
+pub first_once : {mark : ℕ} {bs : List ℕ} (j k : ℕ) → FirstAt mark bs j → FirstAt mark bs k → j ≡ k
+first_once j k p q = go (cases_lt j k) (cases_lt k j)
+  where
+    go : (j < k) ⊎ (k ≤ j) → (k < j) ⊎ (j ≤ k) → j ≡ k
+    go (inl l) o = absurd (q.before j l (p.found (omega (arith, q.within))))
+    go (inr l) (inl m) = absurd (p.before k m (q.found (omega (arith, p.within))))
+    go (inr l) (inr m) = omega arith
 
 pub told_as : {T P : Type 0} {Q : T → Type 0} (o : Option T) (R : Type 0) (S : T → Type 0) → (P → R) → ((x : T) → Q x → S x) → MatchOption o P Q → MatchOption o R S
 told_as None R S f g h = f h

@@ -1,5 +1,5 @@
 -- What a whole script is answered by. Assumes nothing.
-use Rattle.std.specs.Prelude.{◌≡◌, ℕ, suc, ◌<◌, List, [], ◌++◌, length, take, drop, codes}
+use Rattle.std.specs.Prelude.{◌≡◌, ℕ, ◌<◌, List, [], ◌++◌, length, codes}
 use Rattle.std.specs.List.{flat_map}
 use Rattle.sheet.specs.Meanings.{Meaning}
 use Rattle.layers.specs.Folders.{opened}
@@ -7,8 +7,8 @@ use Rattle.archive.specs.declared.call.Call.{Call}
 use Rattle.archive.specs.declared.answer.Answer.{Answer}
 use Rattle.archive.specs.Right.{AllRight}
 use Rattle.archive.specs.Lessening.{Lessens}
-use Rattle.script.specs.Cuts.{FirstAt, lines_of, Spoken}
-use Rattle.script.specs.Makes.{make_name, NoMake, new_sheet}
+use Rattle.script.specs.Cuts.{lines_of, Spoken}
+use Rattle.script.specs.Makes.{Opening, NoOpening, new_sheet}
 use Rattle.script.specs.Text.{line_of}
 use Rattle.script.specs.declared.make.Make.{Make}
 
@@ -22,8 +22,8 @@ pub record Opened (m : Meaning) (script bytes : List ℕ) : Type 0 where
   pub lessens : Lessens (opened m) calls answers
   pub printed : bytes ≡ codes "ok\n" ++ flat_map line_of answers
 
--- an empty script; one whose first line, up to the byte 10 or the end at k, names a make; and any other
+-- an empty script; one that opens with a make; and any other
 pub data Judged (script bytes : List ℕ) : Type 0 where
   nothing : length script ≡ 0 → bytes ≡ [] → Judged script bytes
-  opening : (k : ℕ) (m : Make) → FirstAt 10 script k → take k script ≡ make_name m → Opened (new_sheet m) (drop (suc k) script) bytes → Judged script bytes
-  wrong : (k : ℕ) → 0 < length script → FirstAt 10 script k → NoMake (take k script) → bytes ≡ codes "no 17\n" → Judged script bytes
+  opening : (m : Make) (rest : List ℕ) → Opening script m rest → Opened (new_sheet m) rest bytes → Judged script bytes
+  wrong : 0 < length script → NoOpening script → bytes ≡ codes "no 17\n" → Judged script bytes

@@ -1,6 +1,7 @@
 -- The makes of sheets by name, and what a new one means. Assumes nothing.
-use Rattle.std.specs.Prelude.{ℕ, List, codes, ◌≢◌}
+use Rattle.std.specs.Prelude.{◌≡◌, ℕ, suc, List, take, drop, codes, ◌≢◌}
 use Rattle.sheet.specs.Meanings.{Meaning, empty}
+use Rattle.script.specs.Cuts.{FirstAt}
 use Rattle.script.specs.declared.make.Make.{Make}
 use Rattle.script.specs.declared.make.Make.TheVariants.{Bits, List as Listing}
 
@@ -10,6 +11,16 @@ make_name Listing = codes "list"
 
 abbrev pub NoMake : List ℕ → Type 0
 NoMake line = (m : Make) → line ≢ make_name m
+
+-- the first line, up to the byte 10 or the end at k, is the name of m, and the rest follows it
+pub record Opening (script : List ℕ) (m : Make) (rest : List ℕ) : Type 0 where
+  pub k : ℕ
+  pub first : FirstAt 10 script k
+  pub named : take k script ≡ make_name m
+  pub follows : rest ≡ drop (suc k) script
+
+abbrev pub NoOpening : List ℕ → Type 0
+NoOpening script = (m : Make) (rest : List ℕ) → Opening script m rest → ⊥
 
 -- a new bit sheet has room for 4,032 marks, a new list sheet for 512
 abbrev pub new_sheet : Make → Meaning

@@ -4,8 +4,8 @@ ghost use Rattle.sheet.specs.Views.{meaning_of};
 ghost use Rattle.script.specs.Judged.{Opened, Judged};
 ghost use Rattle.script.specs.Makes.{new_sheet};
 
-use crate::lines::{bare, calls_in, first_line};
-use crate::make::{Make, make_in};
+use crate::lines::calls_in;
+use crate::make::{Make, opening};
 use crate::say::say_all;
 use archive::replay::replay;
 use listsheet::ListSheet;
@@ -39,11 +39,11 @@ fn open(heap: Global, make: Make, script: &[u8]) -> Result<Vec<u8>, AllocError>
 pub fn run(heap: Global, script: &[u8]) -> Result<Vec<u8>, AllocError>
     ensures { IfOk result (λ v. Judged script.now v.items) }
 {
-    let Some(first) = first_line(script) else {
+    if script.is_empty() {
         return Ok(Vec::new(heap));
-    };
-    match make_in(bare(first)) {
-        Some(make) => open(heap, make, &script[first.len()..]),
+    }
+    match opening(script) {
+        Some((make, rest)) => open(heap, make, rest),
         None => Vec::from_slice(heap, b"no 17\n"),
     }
 }
