@@ -1,2 +1,4 @@
 // The form of a release.
 #![tactic(auto)]
+
+pub mod theorems;

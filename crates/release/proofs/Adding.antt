@@ -1,7 +1,6 @@
 -- Texts put into a draft, one after another. Assumes nothing.
-use Rattle.std.proofs.Common.{◌≡◌, ℕ, ◌+◌, List, [], ◌∷◌, ◌++◌, length, sym, refl, ap, ◌∙◌, arith, length-append}
+use Rattle.std.proofs.Common.{◌≡◌, ℕ, ◌+◌, List, [], ◌∷◌, ◌++◌, length, sym, ap, ◌∙◌, arith, length-append}
 use Rattle.std.proofs.lemmas.List.{append_assoc, append-nil}
-use Rattle.std.specs.List.{flat_map}
 use Rattle.arrayvec.specs.ArrayVec.{ArrayVec}
 use Rattle.release.specs.Drafts.{Adds}
 
@@ -24,8 +23,3 @@ pushed items len = record { long = len; bytes = items }
 -- one item more of a section
 pub adds_more : {a b c : ArrayVec ℕ} (f : ℕ → List ℕ) (n : ℕ) {text : List ℕ} → f (n + 1) ≡ f n ++ text → Adds a (f n) b → Adds b text c → Adds a (f (n + 1)) c
 adds_more f n e p q = adds_as (f (n + 1)) (sym e) (adds_then p q)
-
--- the texts of two lists, one after the other
-pub joined_append : {X : Type 0} (f : X → List ℕ) (xs ys : List X) → flat_map f (xs ++ ys) ≡ flat_map f xs ++ flat_map f ys
-joined_append f [] ys = refl
-joined_append f (x ∷ xs) ys = ap (λ (zs : List ℕ). f x ++ zs) (joined_append f xs ys) ∙ sym (append_assoc (f x) (flat_map f xs) (flat_map f ys))

@@ -1,32 +1,17 @@
 -- Four sections, each after its count, are the layout of their contents. Assumes nothing.
-use Rattle.std.proofs.Common.{◌≡◌, ℕ, zero, suc, ◌+◌, Bool, true, false, List, [], ◌∷◌, ◌++◌, length, ℤ, nat_abs, sym, refl, ap, ◌∙◌, ap₂, length-append}
+use Rattle.std.proofs.Common.{◌≡◌, ℕ, List, [], ◌∷◌, ◌++◌, length, sym, refl, ap, ◌∙◌}
 use Rattle.std.specs.List.{flat_map}
 use Rattle.std.proofs.lemmas.List.{append-nil}
-use Rattle.model.specs.Views.{View}
 use Rattle.form.specs.Contents.{Contents}
 use Rattle.form.specs.Laid.{alone, of_pair, of_two, laid_out}
 use Rattle.arrayvec.specs.ArrayVec.{ArrayVec}
 use Rattle.release.specs.Drafts.{Adds, DraftOf}
-use Rattle.release.specs.Sections.{one_if, records_below, depths_below}
 use Rattle.release.proofs.Adding.{adds_then, adds_as}
 
 -- each number in a byte of its own
 pub alone_same : (xs : List ℕ) → flat_map alone xs ≡ xs
 alone_same [] = refl
 alone_same (x ∷ xs) = ap (λ (ys : List ℕ). x ∷ ys) (alone_same xs)
-
--- as many depths as records
-pub depths_long : (w : View) (g : ℕ → ℤ) (n : ℕ) → length (depths_below w g n) ≡ length (records_below w n)
-unfolding depths_below records_below
-depths_long w g zero = refl
-depths_long w g (suc n) =
-    length-append (depths_below w g n) (one_if (w.stands n) (nat_abs (g n)))
-    ∙ ap₂ (λ (a b : ℕ). a + b) (depths_long w g n) (same (w.stands n))
-    ∙ sym (length-append (records_below w n) (one_if (w.stands n) n))
-  where
-    same : (b : Bool) → length (one_if b (nat_abs (g n))) ≡ length (one_if b n)
-    same true = refl
-    same false = refl
 
 -- the parts of a draft that was empty at first, one after another
 pub laid : {d0 d1 d2 d3 d4 d5 d6 d7 d8 : ArrayVec ℕ} {n m k l : ℕ} (c : Contents) → d0.items ≡ []

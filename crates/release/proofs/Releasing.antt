@@ -10,7 +10,7 @@ use Rattle.scale.specs.declared.whole.Whole.{Whole}
 use Rattle.grading.specs.declared.ratio.Ratio.{Ratio}
 use Rattle.grading.specs.Outcomes.{Memory, suffices, Declined}
 use Rattle.grading.specs.Ratios.{RatioGiven, RatioFound, RatioOrCircle, valueless}
-use Rattle.release.specs.Sections.{Short}
+use Rattle.release.specs.Grades.{Short}
 use Rattle.release.specs.Writing.{Puts, Writes, found, circled, Refused, Released, release_of}
 
 -- a ring of at most 64 records has at most 64 marks and 64 hops; and 0 to 1 has no more
@@ -31,12 +31,14 @@ module _ (w : View) (before after : Memory Whole) where
 
   -- Grades of a least ratio are short: their size is at most 64 steps of t1 = h or t2 = e,
   -- and e and h are counted on a ring of at most 64 records.
-  pub short : (r : Ratio) → RatioFound w before after (Ok r) → Short w after.grades
-  short r o u l s =
-      let given = given_of r o in
+  pub short_given : (r : Ratio) → RatioGiven w r before after → Short w after.grades
+  short_given r given u l s =
       let long : length (take r.ring after.ring) ≤ 64 = omega (arith, length-take r.ring after.ring, min-le_left r.ring (length after.ring), given.short) in
       let counts = few w r.marks r.hops (take r.ring after.ring) long given.least.shown in
       omega (arith, given.graded.best.size u l s, max-le counts.1 counts.0)
+
+  pub short : (r : Ratio) → RatioFound w before after (Ok r) → Short w after.grades
+  short r o = short_given r (given_of r o)
 
   -- a least ratio, and its release put out or not
   pub released : (r : Ratio) {out_before out_after : List ℕ} {a : Result ℕ Decline} → RatioFound w before after (Ok r)

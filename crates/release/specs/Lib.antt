@@ -1,3 +1,3 @@
-pub mod Sections
+pub mod Grades
 pub mod Drafts
 pub mod Writing

@@ -9,7 +9,8 @@ use Rattle.grading.specs.declared.ratio.Ratio.{Ratio}
 use Rattle.grading.specs.Outcomes.{Memory, suffices, Declined, Shown}
 use Rattle.grading.specs.Ratios.{RatioGiven, valueless}
 use Rattle.form.specs.Laid.{laid_out}
-use Rattle.release.specs.Sections.{finding, grade_at}
+use Rattle.form.specs.Sections.{finding}
+use Rattle.release.specs.Grades.{grade_at}
 
 -- the release of what stands in w, by the finding r that the least ratio leaves in memory: its records and marks, the depths of its grades, its ring
 abbrev pub release_of : View → Memory Whole → Ratio → List ℕ

@@ -2,7 +2,7 @@
 ghost use Rattle.std.specs.Prelude.{◌≡◌, ℕ, ◌+◌, ◌<◌, ◌≤◌, Bool, length};
 ghost use Rattle.model.specs.Rings.{bit};
 ghost use Rattle.sheet.specs.Views.{view_of};
-ghost use Rattle.release.specs.Sections.{records_below, marks_from, marks_below};
+ghost use Rattle.form.specs.Sections.{records_below, marks_from, marks_below};
 
 use sheet::meaning::Sheet;
 

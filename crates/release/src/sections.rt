@@ -5,7 +5,8 @@ ghost use Rattle.arrayvec.specs.ArrayVec.{array_vec_len};
 ghost use Rattle.form.specs.Laid.{of_pair, of_two};
 ghost use Rattle.sheet.specs.Views.{view_of};
 ghost use Rattle.release.specs.Drafts.{Adds, DraftOf};
-ghost use Rattle.release.specs.Sections.{records_below, marks_from, marks_below, depths_below, finding, grade_at, Short};
+ghost use Rattle.form.specs.Sections.{records_below, marks_from, marks_below, depths_below, finding};
+ghost use Rattle.release.specs.Grades.{grade_at, Short};
 
 use crate::count::{count_marks, count_records};
 use crate::draft::{Draft, put_two};

@@ -2,7 +2,7 @@
 ghost use Rattle.std.specs.Prelude.{◌≡◌, ◌≤◌, length};
 ghost use Rattle.sheet.specs.Views.{view_of};
 ghost use Rattle.grading.specs.Outcomes.{brought, SameLent};
-ghost use Rattle.release.specs.Sections.{Short};
+ghost use Rattle.release.specs.Grades.{Short};
 ghost use Rattle.release.specs.Writing.{release_of, Puts, Released};
 
 use crate::draft::Draft;

@@ -2,7 +2,7 @@
 use Rattle.std.proofs.Common.{◌≡◌, ℕ, List, ◌++◌, [], ◌∷◌, ℤ, pos, neg_ℤ, nat_abs, sym, refl, subst, arith}
 use Rattle.sheet.specs.Calls.{put_state, put_mark}
 use Rattle.form.specs.Laid.{laid_out, of_two}
-use Rattle.release.specs.Sections.{records_below, marks_from, marks_below, depths_below, finding}
+use Rattle.form.specs.Sections.{records_below, marks_from, marks_below, depths_below, finding}
 use Rattle.samples.specs.Results.{RatioIs, ReleaseIs}
 use Rattle.samples.specs.Statements.{nothing, outer_mark, outer_mark_bytes}
 

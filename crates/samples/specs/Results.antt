@@ -12,7 +12,7 @@ use Rattle.scale.specs.Units.{of_unit}
 use Rattle.scale.specs.Pairs.{both}
 use Rattle.paths.specs.Numbers.{BestLoose, BestStrict}
 use Rattle.form.specs.Laid.{laid_out}
-use Rattle.release.specs.Sections.{finding}
+use Rattle.form.specs.Sections.{finding}
 
 -- grades by how far below 0 they are: that of record u at the place u
 abbrev pub minus : List ℕ → ℕ → ℤ

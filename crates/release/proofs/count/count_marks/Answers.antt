@@ -1,7 +1,7 @@
 use Rattle.std.proofs.Common.{refl, arith}
 use Rattle.sheet.specs.Views.{view_of}
-use Rattle.release.specs.Sections.{marks_below}
-use Rattle.release.proofs.Listing.{marks_count}
+use Rattle.form.specs.Sections.{marks_below}
+use Rattle.form.proofs.Listing.{marks_count}
 use Rattle.release.proofs.count.count_marks.Goals as goal
 
 pub loop-u-init : goal.loop-u-init

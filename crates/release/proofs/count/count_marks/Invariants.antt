@@ -1,6 +1,6 @@
 use Rattle.std.proofs.Common.{◌≡◌, ◌*◌, ◌≤◌, length}
 use Rattle.sheet.specs.Views.{view_of}
-use Rattle.release.specs.Sections.{marks_below}
+use Rattle.form.specs.Sections.{marks_below}
 use Rattle.release.proofs.count.count_marks.Given as goal
 
 abbrev pub invariant-loop-u : goal.invariant-loop-u

@@ -1,8 +1,8 @@
 use Rattle.std.proofs.Common.{◌+◌, length, refl, ap, ◌∙◌, rules}
 use Rattle.model.specs.Rings.{bit}
 use Rattle.sheet.specs.Views.{view_of}
-use Rattle.release.specs.Sections.{marks_from}
-use Rattle.release.proofs.Listing.{marks_from_count}
+use Rattle.form.specs.Sections.{marks_from}
+use Rattle.form.proofs.Listing.{marks_from_count}
 use Rattle.release.proofs.count.count_marks_from.Goals as goal
 
 pub returns-clause-counted : goal.returns-clause-counted

@@ -1,8 +1,8 @@
 use Rattle.std.proofs.Common.{◌+◌, length, refl, ap, ◌∙◌, rules}
 use Rattle.model.specs.Rings.{bit}
 use Rattle.sheet.specs.Views.{view_of}
-use Rattle.release.specs.Sections.{records_below}
-use Rattle.release.proofs.Listing.{records_count}
+use Rattle.form.specs.Sections.{records_below}
+use Rattle.form.proofs.Listing.{records_count}
 use Rattle.release.proofs.count.count_records.Goals as goal
 
 pub returns : goal.returns

@@ -1,8 +1,10 @@
 use Rattle.std.proofs.Common.{sym, refl, ◌∙◌}
 use Rattle.sheet.specs.Views.{view_of}
-use Rattle.release.specs.Sections.{finding, grade_at}
+use Rattle.form.specs.Sections.{finding}
+use Rattle.release.specs.Grades.{grade_at}
 use Rattle.release.proofs.Adding.{pushed}
-use Rattle.release.proofs.Laying.{laid, depths_long}
+use Rattle.release.proofs.Laying.{laid}
+use Rattle.form.proofs.Listing.{depths_long}
 use Rattle.release.proofs.sections.lay_out.Goals as goal
 
 pub returns : goal.returns

@@ -6,9 +6,10 @@ use Rattle.sheet.specs.States.{is_standing}
 use Rattle.sheet.specs.Views.{view_of}
 use Rattle.form.specs.Laid.{of_two}
 use Rattle.release.specs.Drafts.{Adds}
-use Rattle.release.specs.Sections.{one_if, depths_below, grade_at}
+use Rattle.form.specs.Sections.{one_if, depths_below}
+use Rattle.release.specs.Grades.{grade_at}
 use Rattle.release.proofs.Adding.{adds_none, adds_as, adds_more}
-use Rattle.release.proofs.Listing.{depths_more}
+use Rattle.form.proofs.Listing.{depths_more}
 use Rattle.release.proofs.sections.put_depths.Goals as goal
 use Rattle.release.proofs.sections.put_depths.Goals.{then-stands, else-stands}
 

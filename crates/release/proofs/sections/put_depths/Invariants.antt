@@ -4,7 +4,8 @@ use Rattle.sheet.specs.Views.{view_of}
 use Rattle.arrayvec.specs.ArrayVec.{array_vec_len}
 use Rattle.release.specs.Drafts.{Adds}
 use Rattle.form.specs.Laid.{of_two}
-use Rattle.release.specs.Sections.{depths_below, grade_at}
+use Rattle.form.specs.Sections.{depths_below}
+use Rattle.release.specs.Grades.{grade_at}
 use Rattle.release.proofs.sections.put_depths.Given as goal
 
 abbrev pub invariant-loop-u : goal.invariant-loop-u

@@ -1,8 +1,8 @@
 use Rattle.std.proofs.Common.{arith}
 use Rattle.std.specs.List.{flat_map}
 use Rattle.form.specs.Laid.{of_pair}
-use Rattle.release.specs.Sections.{marks_below}
-use Rattle.release.proofs.Listing.{marks_more}
+use Rattle.form.specs.Sections.{marks_below}
+use Rattle.form.proofs.Listing.{marks_more}
 use Rattle.sheet.specs.Views.{view_of}
 use Rattle.release.proofs.Adding.{adds_none, adds_more}
 use Rattle.release.proofs.sections.put_marks.Goals as goal

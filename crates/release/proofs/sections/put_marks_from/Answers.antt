@@ -1,8 +1,8 @@
 use Rattle.std.proofs.Common.{ℕ, Bool, List, sym, ap, ◌∙◌, arith}
 use Rattle.std.specs.List.{flat_map}
 use Rattle.form.specs.Laid.{of_pair}
-use Rattle.release.specs.Sections.{one_if, marks_from}
-use Rattle.release.proofs.Listing.{marks_from_more}
+use Rattle.form.specs.Sections.{one_if, marks_from}
+use Rattle.form.proofs.Listing.{marks_from_more}
 use Rattle.sheet.specs.Views.{view_of}
 use Rattle.release.proofs.Adding.{adds_none, adds_as, adds_more, adds_then, pushed}
 use Rattle.release.proofs.sections.put_marks_from.Goals as goal

@@ -1,7 +1,7 @@
 use Rattle.std.proofs.Common.{◌+◌, ◌*◌, ◌≤◌}
 use Rattle.std.specs.List.{flat_map}
 use Rattle.form.specs.Laid.{of_pair}
-use Rattle.release.specs.Sections.{marks_from}
+use Rattle.form.specs.Sections.{marks_from}
 use Rattle.sheet.specs.Views.{view_of}
 use Rattle.arrayvec.specs.ArrayVec.{array_vec_len}
 use Rattle.release.specs.Drafts.{Adds}

@@ -1,9 +1,9 @@
 use Rattle.std.proofs.Common.{◌≡◌, Bool, sym, ap, ◌∙◌, arith}
 use Rattle.sheet.specs.States.{is_standing}
 use Rattle.sheet.specs.Views.{view_of}
-use Rattle.release.specs.Sections.{one_if, records_below}
+use Rattle.form.specs.Sections.{one_if, records_below}
 use Rattle.release.proofs.Adding.{adds_none, adds_as, adds_more, pushed}
-use Rattle.release.proofs.Listing.{records_more}
+use Rattle.form.proofs.Listing.{records_more}
 use Rattle.release.proofs.sections.put_records.Goals as goal
 use Rattle.release.proofs.sections.put_records.Goals.{then-stands, else-stands}
 

@@ -1,5 +1,5 @@
 use Rattle.std.proofs.Common.{◌+◌, ◌≤◌}
-use Rattle.release.specs.Sections.{records_below}
+use Rattle.form.specs.Sections.{records_below}
 use Rattle.sheet.specs.Views.{view_of}
 use Rattle.arrayvec.specs.ArrayVec.{array_vec_len}
 use Rattle.release.specs.Drafts.{Adds}

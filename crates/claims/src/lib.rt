@@ -1,4 +1,0 @@
-// What a release claims.
-#![tactic(auto)]
-
-pub mod claim;

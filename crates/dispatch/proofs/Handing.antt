@@ -1,0 +1,50 @@
+-- From the outcome of writing a release to what is handed out. Assumes nothing.
+use Rattle.std.proofs.Common.{◌≡◌, ℕ, ◌≤◌, Bool, true, List, length, take, drop, Ok, Err, MatchBool, Result, sym, ap, ◌∙◌, subst, arith, length-append, length-take-le}
+use Rattle.std.proofs.lemmas.List.{take_at}
+use Rattle.model.specs.declared.decline.Decline.{Decline}
+use Rattle.model.specs.Refusals.{ring_length}
+use Rattle.model.specs.Views.{View}
+use Rattle.scale.specs.declared.whole.Whole.{Whole}
+use Rattle.grading.specs.Outcomes.{Memory, suffices}
+use Rattle.form.proofs.Lengths.{release_long}
+use Rattle.release.specs.Grades.{grade_at}
+use Rattle.release.specs.Writing.{put, short, release_of, Writes, found, circled, Refused, Released}
+use Rattle.dispatch.specs.Dispatches.{ReleaseOf, CircleIn}
+
+module _ (w : View) (before after : Memory Whole) (out_before out_after : List ℕ) (room : suffices before ≡ true) where
+  -- with enough memory: written, or a circle
+  writes : (a : Result ℕ Decline) → Released w before after out_before out_after a → Writes w before after out_before out_after a
+  writes a o = subst (λ (b : Bool). MatchBool b (Writes w before after out_before out_after a) (Refused before after out_before out_after a)) room o
+
+  -- the bytes at the front are the release
+  pub handed : (n : ℕ) → Released w before after out_before out_after (Ok n) → (n ≤ length out_after) × ReleaseOf w (take n out_after)
+  handed n o = go (writes (Ok n) o)
+    where
+      go : Writes w before after out_before out_after (Ok n) → (n ≤ length out_after) × ReleaseOf w (take n out_after)
+      go (found r given (put m is within after_is)) = (
+        omega (arith, is, ap length after_is, length-append (release_of w after r) (drop n out_before)),
+        record {
+          e = r.marks;
+          h = r.hops;
+          ring = take r.ring after.ring;
+          g = grade_at after.grades;
+          least = given.least;
+          best = given.graded.best;
+          bytes_are = ap (take n) after_is ∙ take_at (release_of w after r) (drop n out_before) n (sym is);
+        },
+      )
+
+  -- no output of 8,453 bytes is too short
+  pub refused : (d : Decline) → 8453 ≤ length out_before → 64 ≤ length after.ring → Released w before after out_before out_after (Err d) → CircleIn w d
+  refused d wide ring o = go (writes (Err d) o)
+    where
+      go : Writes w before after out_before out_after (Err d) → CircleIn w d
+      go (found r given (short b number less kept)) =
+          let long = length-take-le r.ring after.ring (omega (arith, given.short, ring)) in
+          absurd (omega (arith, less, wide, release_long w (grade_at after.grades) (take r.ring after.ring) (omega (arith, long, given.short))))
+      go (circled b number shown kept) = record {
+        number = number;
+        ring = take (ring_length d) after.ring;
+        circle = shown.ring;
+        long = omega (arith, length-take-le (ring_length d) after.ring (omega (arith, shown.short, ring)));
+      }

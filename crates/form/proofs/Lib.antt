@@ -1,0 +1,8 @@
+pub mod Joining
+pub mod Listing
+pub mod Steps
+pub mod Back
+pub mod Only
+pub mod Lookups
+pub mod Chains
+pub mod Lengths

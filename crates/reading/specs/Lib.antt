@@ -1,0 +1,6 @@
+pub mod Told
+pub mod Claims
+pub mod Giving
+pub mod Tests
+pub mod Props
+pub mod Reads

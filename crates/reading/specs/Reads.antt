@@ -1,0 +1,32 @@
+-- What reading bytes answers. Assumes nothing.
+use Rattle.std.specs.Prelude.{◌≡◌, ℕ, List, Ok, Err, Result}
+use Rattle.model.specs.declared.decline.Decline.{Decline}
+use Rattle.model.specs.Refusals.{number_of}
+use Rattle.form.specs.Contents.{Contents}
+use Rattle.form.specs.Got.{Got, got, stop}
+use Rattle.form.specs.Reading.{release}
+use Rattle.reading.specs.declared.release.Release.{Release}
+use Rattle.reading.specs.Told.{Told, Holds, told_by}
+use Rattle.reading.specs.Claims.{claimed}
+
+-- what a release tells
+abbrev pub told : Release → Told
+told r = claimed r.claim r.tally.marks r.tally.hops
+
+-- a release that tells just this, with its own marks and hops, and holds; or declined by 16, where this holds with no marks and hops
+abbrev pub Judged : (ℕ → ℕ → Told) → Result Release Decline → Type 0
+Judged what (Ok r) = (told r ≡ what (told r).marks (told r).hops) × Holds (told r)
+Judged what (Err d) = (number_of d ≡ 16) × ((e h : ℕ) → Holds (what e h) → ⊥)
+
+-- declined by a number
+abbrev pub DeclinedBy : ℕ → Result Release Decline → Type 0
+DeclinedBy n (Ok r) = ⊥
+DeclinedBy n (Err d) = number_of d ≡ n
+
+-- the first broken rule of the form decides; where none is broken, what the contents tell is judged
+abbrev pub Answered : Got Contents → Result Release Decline → Type 0
+Answered (got c rest) a = Judged (told_by c) a
+Answered (stop n) a = DeclinedBy n a
+
+abbrev pub Reads : List ℕ → Result Release Decline → Type 0
+Reads bs a = Answered (release bs) a

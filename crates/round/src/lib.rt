@@ -1,0 +1,7 @@
+// A release written and read back.
+#![tactic(auto)]
+
+#[cfg(test)]
+mod tests;
+pub mod theorems;
+pub mod trip;
