@@ -2,10 +2,12 @@
 #![tactic(auto)]
 
 mod piles;
+mod samples;
 #[cfg(test)]
 mod tests;
 
 use crate::piles::piles;
+use crate::samples::samples;
 use script::run::run;
 use std::io;
 use std::io::Write;
@@ -108,21 +110,8 @@ fn gradings(rt: &HostRuntime) -> io::Result<()> {
     )
 }
 
-// The least ratio of some folders, with the loose gradings just below it and at it.
-fn ratios(rt: &HostRuntime) -> io::Result<()> {
-    trial(rt, "no records", b"bits\nr\n")?;
-    trial(rt, "two records, no mark", b"bits\ne 0\ne 1\nr\ng 1 0\n")?;
-    trial(rt, "one mark alone", b"bits\ne 0\ne 1\nm 0 1\nr\n")?;
-    trial(
-        rt,
-        "a path, and less of it",
-        b"list\ne 0\ne 1\ne 2\ne 3\nm 0 1\nm 1 2\nm 2 3\nr\ng 1 3\ng 1 2\na 3\nr\nb 3\na 1\nr\n",
-    )?;
-    trial(
-        rt,
-        "a circle of two",
-        b"bits\ne 0\ne 1\nm 0 1\nm 1 0\nr\na 1\nr\n",
-    )?;
+// Circles and rings beside those of the sample folders.
+fn circles(rt: &HostRuntime) -> io::Result<()> {
     trial(
         rt,
         "a circle of three, and more that stands",
@@ -130,13 +119,8 @@ fn ratios(rt: &HostRuntime) -> io::Result<()> {
     )?;
     trial(
         rt,
-        "two marks apart, not reduced",
-        b"bits\ne 0\ne 1\ne 2\ne 3\nm 0 1\nm 2 3\nr\ng 2 2\n",
-    )?;
-    trial(
-        rt,
-        "all six upward, and one unmarked",
-        b"bits\ne 0\ne 1\ne 2\ne 3\ne 4\nm 0 1\nm 0 2\nm 0 3\nm 1 2\nm 1 3\nm 2 3\nr\ng 2 3\ng 3 4\n",
+        "a circle that is set aside",
+        b"bits\ne 0\ne 1\nm 0 1\nm 1 0\nr\na 1\nr\n",
     )
 }
 
@@ -146,6 +130,7 @@ fn main(rt: HostRuntime) -> io::Result<()> {
     declined_calls(&rt)?;
     setting_aside(&rt)?;
     gradings(&rt)?;
-    ratios(&rt)?;
+    samples(&rt)?;
+    circles(&rt)?;
     piles(&rt)
 }

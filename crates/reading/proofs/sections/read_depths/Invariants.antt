@@ -9,4 +9,5 @@ use Rattle.reading.proofs.sections.read_depths.Given as goal
 abbrev pub invariant-loop-u : goal.invariant-loop-u
 invariant-loop-u l =
     (length l.depths ≡ 64)
-    × Progress {S = ℕ} (λ _. two_bytes) any (depths_part (length (records_below (of_set l.records) 64)) l.fn.reader.rest.now) (left_from l.records l.u) 0 l.reader.rest.now (Placed l.records l.u l.depths)
+    × Progress {S = ℕ} (λ _. two_bytes) any (depths_part (length (records_below (of_set l.records) 64)) l.fn.reader.rest.now)
+    (left_from l.records l.u) 0 l.reader.rest.now (Placed l.records l.u l.depths)

@@ -31,7 +31,8 @@ loop-preserved c =
 pub returns-in_err-u : goal.returns-in_err-u
 returns-in_err-u c =
     let p = err_from_is_err_and c.from_residual-in_err-u.result c.from_residual-in_err-u.ensures.1 in
-    rw (p.1, p.2) (stopped (pair_from (has c.args.records)) later (c.in_ok-end.end - (c.loop.counter + 1)) (number_of c.in_err-u.field-0.0) (omega arith) c.in_err-u.ensures.gives c.loop.invariant.1)
+    rw (p.1, p.2) (stopped (pair_from (has c.args.records)) later (c.in_ok-end.end - (c.loop.counter + 1))
+    (number_of c.in_err-u.field-0.0) (omega arith) c.in_err-u.ensures.gives c.loop.invariant.1)
 
 pub returns : goal.returns
 returns c = all (pair_from (has c.args.records)) later (λ ms. AreRows c.args.records ms c.loop.rows) (omega arith) (λ ys rows. rows) c.loop.invariant.1
