@@ -143,15 +143,21 @@ impl<S: Sheet> Sheet for Folder<S> {
         self.below.capacity()
     }
 
-    fn enter(&mut self, u: u8) -> Result<(), Decline> {
+    fn enter(&mut self, u: u8) -> Result<(), Decline>
+        ensures account { EntersIn S.Sheet u self.old self.new result }
+    {
         self.enter_here(u)
     }
 
-    fn mark(&mut self, u: u8, v: u8) -> Result<(), Decline> {
+    fn mark(&mut self, u: u8, v: u8) -> Result<(), Decline>
+        ensures account { MarksIn S.Sheet u v self.old self.new result }
+    {
         self.mark_here(u, v)
     }
 
-    fn strike(&mut self, u: u8, v: u8) -> Result<(), Decline> {
+    fn strike(&mut self, u: u8, v: u8) -> Result<(), Decline>
+        ensures account { StrikesIn S.Sheet u v self.old self.new result }
+    {
         self.strike_here(u, v)
     }
 }
