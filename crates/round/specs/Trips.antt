@@ -26,6 +26,10 @@ pub record TellsOf (w : View) (m : Memory Whole) (r : Ratio) (release : Release)
 abbrev pub TellsOfFinding : View → Memory Whole → Memory Whole → Release → Type 0
 TellsOfFinding w before after release = (r : Ratio) × RatioGiven w r before after × TellsOf w after r release
 
+-- the release is what the first n bytes are read as
+abbrev pub ReadFrom : List ℕ → ℕ × Release → Type 0
+ReadFrom bytes p = Reads (take p.0 bytes) (Ok p.1)
+
 -- a release that tells of the finding, and no decline
 abbrev pub ReadBack : View → Memory Whole → Memory Whole → Result Release Decline → Type 0
 ReadBack w before after (Ok release) = TellsOfFinding w before after release

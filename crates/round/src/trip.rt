@@ -3,7 +3,7 @@ ghost use Rattle.std.specs.Prelude.{IfOk};
 ghost use Rattle.sheet.specs.Views.{view_of};
 ghost use Rattle.grading.specs.Outcomes.{brought, SameLent};
 ghost use Rattle.release.specs.Writing.{Released};
-ghost use Rattle.round.specs.Trips.{TellsOfFinding, length_of};
+ghost use Rattle.round.specs.Trips.{TellsOfFinding, ReadFrom, length_of};
 
 use grading::memory::Memory;
 use model::decline::Decline;
@@ -22,6 +22,7 @@ pub fn write_and_read<S: Sheet>(
 ) -> Result<(usize, Release), Decline>
     ensures released { Released (view_of S.Sheet sheet.now) (brought memory.old) (brought memory.new) out.old out.new (length_of result) }
     ensures read { IfOk result (λ p. TellsOfFinding (view_of S.Sheet sheet.now) (brought memory.old) (brought memory.new) p.1) }
+    ensures back { IfOk result (ReadFrom out.new) }
     ensures same { SameLent memory.old memory.new }
 {
     let length = write_release(sheet, memory, out)?;
