@@ -22,7 +22,7 @@ pub record Followed (a : Account) (c : Call) (b : Account) : Type 0 where
   pub account : b ≡ next a c
   pub tidy : Tidy b
 
--- and is answered by r: both where no absent number is in the set, as is so after every list of calls
+-- if no absent number is in the set before the call: the account goes from a to b, no absent number is in the set after it, and the answer r is right
 pub record Answered (a : Account) (c : Call) (b : Account) (r : Result Answer AllocError) : Type 0 where
   pub follows : Tidy a → Followed a c b
   pub right : Tidy a → IfOk r (Right a c)

@@ -23,7 +23,8 @@ pub record NoGreater (v w : View) : Type 0 where
   pub circleless : NoCircle v → NoCircle w
   pub ratio : (e h f k : ℕ) (xs ys : List ℕ) → LeastRatio v e h xs → LeastRatio w f k ys → f * h ≤ e * k
 
--- the marks and the hops of the ratio that an answer tells: 1 to 0, above every ratio, where it tells of a circle
+-- the marks and the hops of the ratio that an answer tells: 1 to 0, above every ratio, where it tells none. A call for the ratio is answered by a ratio
+-- or by a circle alone (`AllRight`)
 abbrev pub marks_told : Answer → ℕ
 marks_told Taken = 1
 marks_told (Declined d) = 1

@@ -7,6 +7,8 @@ use Rattle.model.specs.Views.{View}
 use Rattle.scale.specs.declared.whole.Whole.{Whole}
 use Rattle.grading.specs.Outcomes.{Memory, suffices}
 use Rattle.form.proofs.Lengths.{release_long}
+use Rattle.reading.specs.declared.release.Release.{Release}
+use Rattle.reading.specs.Reads.{Reads}
 use Rattle.release.specs.Grades.{grade_at}
 use Rattle.release.specs.Writing.{put, short, release_of, Writes, found, circled, Refused, Released}
 use Rattle.dispatch.specs.Dispatches.{ReleaseOf, CircleIn}
@@ -17,8 +19,8 @@ module _ (w : View) (before after : Memory Whole) (out_before out_after : List �
   writes a o = subst (λ (b : Bool). MatchBool b (Writes w before after out_before out_after a) (Refused before after out_before out_after a)) room o
 
   -- the bytes at the front are the release
-  pub handed : (n : ℕ) → Released w before after out_before out_after (Ok n) → (n ≤ length out_after) × ReleaseOf w (take n out_after)
-  handed n o = go (writes (Ok n) o)
+  pub handed : (n : ℕ) (release : Release) → Released w before after out_before out_after (Ok n) → Reads (take n out_after) (Ok release) → (n ≤ length out_after) × ReleaseOf w (take n out_after)
+  handed n release o read = go (writes (Ok n) o)
     where
       go : Writes w before after out_before out_after (Ok n) → (n ≤ length out_after) × ReleaseOf w (take n out_after)
       go (found r given (put m is within after_is)) = (
@@ -31,6 +33,8 @@ module _ (w : View) (before after : Memory Whole) (out_before out_after : List �
           least = given.least;
           best = given.graded.best;
           bytes_are = ap (take n) after_is ∙ take_at (release_of w after r) (drop n out_before) n (sym is);
+          release = release;
+          read = read;
         },
       )
 

@@ -12,6 +12,8 @@ use Rattle.layers.specs.Folders.{opened}
 use Rattle.paths.specs.Numbers.{BestLoose}
 use Rattle.form.specs.Laid.{laid_out}
 use Rattle.form.specs.Sections.{finding}
+use Rattle.reading.specs.declared.release.Release.{Release}
+use Rattle.reading.specs.Reads.{Reads}
 use Rattle.archive.specs.declared.call.Call.{Call}
 use Rattle.archive.specs.Accounts.{stands_in, run}
 use Rattle.script.specs.declared.make.Make.{Make}
@@ -20,7 +22,8 @@ use Rattle.script.specs.Makes.{Opening, NoOpening, new_sheet}
 use Rattle.dispatch.specs.declared.refusal.Refusal.{Refusal}
 use Rattle.dispatch.specs.declared.refusal.Refusal.TheVariants.{Declined, NoHeap}
 
--- the bytes are the release of what stands in w: e to h is the least ratio, which the ring shows, and g has the best loose grades there
+-- the bytes are the release of what stands in w: e to h is the least ratio, which the ring shows, and g has the best loose grades there;
+-- and the reader takes them
 pub record ReleaseOf (w : View) (bytes : List ℕ) : Type 0 where
   pub e : ℕ
   pub h : ℕ
@@ -29,6 +32,8 @@ pub record ReleaseOf (w : View) (bytes : List ℕ) : Type 0 where
   pub least : LeastRatio w e h ring
   pub best : BestLoose w (thresholds_at e h) g
   pub bytes_are : bytes ≡ laid_out (finding w g ring)
+  pub release : Release
+  pub read : Reads bytes (Ok release)
 
 -- declined by 12, with the length of a circle that stands in w
 pub record CircleIn (w : View) (d : Decline) : Type 0 where

@@ -18,7 +18,7 @@ abbrev pub paired : List (ℕ × ℕ) → ℕ → ℕ → Bool
 paired [] u v = false
 paired (p ∷ ps) u v = (p.0 == u && p.1 == v) || paired ps u v
 
--- the depth that stands beside the record u, and 0 where u is none
+-- the depth that stands beside the record u, and 0 where u is none of them, or there are too few depths
 abbrev pub beside : List ℕ → List ℕ → ℕ → ℕ
 beside [] ds u = 0
 beside (x ∷ xs) [] u = 0

@@ -47,7 +47,7 @@ pub record PairFrom (rs : List ℕ) (low p : ℕ × ℕ) : Type 0 where
 abbrev pub Rising : List ℕ → Type 0
 Rising rs = Chain NumberFrom above 0 rs
 
--- records and pairs rise, there are as many depths as records, and each number and count fits its bytes
+-- records and pairs rise, there are as many depths as records, the ring's numbers are at most 63, and each count and depth fits its bytes
 pub record Valid (c : Contents) : Type 0 where
   pub records : Rising c.records
   pub marks : Chain (PairFrom c.records) later (0, 0) c.marks

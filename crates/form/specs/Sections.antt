@@ -1,4 +1,5 @@
--- The records, marks and depths of what stands, each rising. Assumes nothing.
+-- The records, marks and depths of what stands, records and marks rising: of a view whose marks join standing records, and of grades that are not above 0.
+-- Assumes nothing.
 use Rattle.std.specs.Prelude.{ℕ, zero, suc, Bool, true, false, List, [], ◌∷◌, ◌++◌, ℤ, unsigned_abs}
 use Rattle.model.specs.Views.{View}
 use Rattle.form.specs.Contents.{Contents}

@@ -13,7 +13,7 @@ use Rattle.reading.specs.Claims.{claimed}
 abbrev pub told : Release → Told
 told r = claimed r.claim r.tally.marks r.tally.hops
 
--- a release that tells just this, with its own marks and hops, and holds; or declined by 16, where this holds with no marks and hops
+-- a release that tells just this, with its own marks and hops, and holds; or declined by 16, where it holds for no e and h
 abbrev pub Judged : (ℕ → ℕ → Told) → Result Release Decline → Type 0
 Judged what (Ok r) = (told r ≡ what (told r).marks (told r).hops) × Holds (told r)
 Judged what (Err d) = (number_of d ≡ 16) × ((e h : ℕ) → Holds (what e h) → ⊥)

@@ -1,5 +1,5 @@
 -- What a finding has of a drawn view meets the rules of the form. Assumes nothing.
-use Rattle.std.proofs.Common.{◌≡◌, ℕ, zero, suc, ◌*◌, ◌<◌, ◌≤◌, Bool, true, false, ◌&&◌, List, ◌++◌, length, eqb, ltb, leb, get_or, ℤ, nat_abs, ◌⊎◌, inl, inr, refl, sym, ◌∙◌, subst, arith, append_assoc, length-append}
+use Rattle.std.proofs.Common.{◌≡◌, ℕ, zero, suc, ◌<◌, ◌≤◌, Bool, true, false, ◌&&◌, List, ◌++◌, length, eqb, ltb, leb, get_or, ℤ, nat_abs, ◌⊎◌, inl, inr, refl, sym, ◌∙◌, subst, arith, append_assoc}
 use Rattle.std.proofs.lemmas.List.{append-nil}
 use Rattle.std.proofs.lemmas.Bool.{lt-ltb, le-leb, eq-eqb, or_left, or_right, and_from}
 use Rattle.model.specs.Views.{View}

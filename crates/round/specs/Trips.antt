@@ -22,7 +22,7 @@ pub record TellsOf (w : View) (m : Memory Whole) (r : Ratio) (release : Release)
   pub marks : (told release).marks ≡ r.marks
   pub hops : (told release).hops ≡ r.hops
 
--- it tells of the least ratio's finding
+-- it tells of the least ratio's finding; the clause `back` ties it to the bytes that were written
 abbrev pub TellsOfFinding : View → Memory Whole → Memory Whole → Release → Type 0
 TellsOfFinding w before after release = (r : Ratio) × RatioGiven w r before after × TellsOf w after r release
 

@@ -14,7 +14,7 @@ use Rattle.paths.specs.Numbers.{BestLoose, BestStrict}
 use Rattle.form.specs.Laid.{laid_out}
 use Rattle.form.specs.Sections.{finding}
 
--- grades by how far below 0 they are: that of record u at the place u
+-- grades by how far below 0 they are: that of record u at the place u. The place of a number that does not stand has no meaning, and holds 0
 abbrev pub minus : List ℕ → ℕ → ℤ
 minus depths u = neg_ℤ (pos (slice_index depths u))
 

@@ -24,7 +24,7 @@ LinesShort = (bytes : List ℕ) (c : Call) → IsLine bytes c → length bytes �
 abbrev pub LongLinesWrong : Type 0
 LongLinesWrong = (bytes : List ℕ) (c : Call) → 80 < length bytes → LineCall bytes c → c ≡ Wrong
 
--- every entry is of a record below 256, with a grade that 4,096 steps can reach
+-- every entry g, at its place k, is of a record below 256, with a grade that 4,096 steps can reach
 abbrev pub ModestEntries : {V : Type 0} → (V → ℕ → Type 0) → List (Graded V) → Type 0
 ModestEntries {V} extent xs =
     (k : ℕ) (g : Graded V) → k < length xs → g ≡ slice_index_or xs k g → (g.«record» < 256) × extent g.grade 4096

@@ -13,7 +13,7 @@ use Rattle.archive.specs.declared.answer.Answer.{Answer}
 use Rattle.archive.specs.declared.answer.Answer.TheVariants.{Taken, Declined, Forced, Wholes, Pairs, Units, Ratio}
 use Rattle.script.specs.Numbers.{field}
 
--- a grade: "-2", or "-2/1" for a pair
+-- a grade: "-2", or "-2/-1" for a pair
 abbrev pub whole_text : Whole → List ℕ
 whole_text w = signed_decimal w.value
 

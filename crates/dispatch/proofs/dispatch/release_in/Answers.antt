@@ -19,16 +19,16 @@ returns-in_err-length g c =
 pub slice_bounds-from_slice-end : goal.slice_bounds-from_slice-end
 slice_bounds-from_slice-end g c =
     (handed (view_in (seen (account_of g.S.Sheet c.args.folder.now))) (brought c.args.memory.now) (brought c.write_and_read.new.memory) c.args.out.now c.write_and_read.new.out c.requires.room c.in_ok-length.length
-    c.in_ok-length.ensures.released).0
+    c.in_ok-length.field-0-1 c.in_ok-length.ensures.released c.in_ok-length.ensures.back).0
 
 pub slice_bounds-from_slice-end-2 : goal.slice_bounds-from_slice-end-2
 slice_bounds-from_slice-end-2 g c =
     sym (length-take-le c.in_ok-length.length c.write_and_read.new.out
     (handed (view_in (seen (account_of g.S.Sheet c.args.folder.now))) (brought c.args.memory.now) (brought c.write_and_read.new.memory) c.args.out.now c.write_and_read.new.out c.requires.room c.in_ok-length.length
-    c.in_ok-length.ensures.released).0)
+    c.in_ok-length.field-0-1 c.in_ok-length.ensures.released c.in_ok-length.ensures.back).0)
 
 pub returns : goal.returns
 returns g c =
     let w = view_in (seen (account_of g.S.Sheet c.args.folder.now)) in
     subst (ReleaseOf w) (sym c.in_ok-from_slice.ensures.items)
-    (handed w (brought c.args.memory.now) (brought c.write_and_read.new.memory) c.args.out.now c.write_and_read.new.out c.requires.room c.in_ok-length.length c.in_ok-length.ensures.released).1
+    (handed w (brought c.args.memory.now) (brought c.write_and_read.new.memory) c.args.out.now c.write_and_read.new.out c.requires.room c.in_ok-length.length c.in_ok-length.field-0-1 c.in_ok-length.ensures.released c.in_ok-length.ensures.back).1
