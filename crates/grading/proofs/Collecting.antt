@@ -6,7 +6,7 @@ use Rattle.model.specs.Views.{View, two, step, is_mark, is_hop}
 use Rattle.model.specs.declared.step.Step.TheVariants.{Mark, Hop}
 use Rattle.model.specs.Views.{marks, hops}
 use Rattle.model.proofs.Digits.{has_zero}
-use Rattle.grading.specs.Graphs.{Collected, both_in}
+use Rattle.grading.specs.Rows.{Collected, both_in}
 
 pub none_collected : (f : ℕ → Bool) → Collected f 0 0
 none_collected f k = let l : 0 ≤ k = omega arith in has_zero k ∙ rw (le-ltb k 0 l)

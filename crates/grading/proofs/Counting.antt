@@ -6,8 +6,7 @@ use Rattle.model.proofs.Sums.{sum_none, sum_more}
 use Rattle.model.proofs.Rounds.{round_low}
 use Rattle.grading.specs.declared.graph.Graph.{Graph}
 use Rattle.grading.specs.declared.count.Tally.{Tally}
-use Rattle.grading.specs.Graphs.{Draws}
-use Rattle.grading.specs.Problems.{graph_marks, graph_hops}
+use Rattle.grading.specs.Graphs.{graph_marks, graph_hops, Draws}
 use Rattle.grading.specs.Counts.{Counted}
 
 -- a step adds one at most

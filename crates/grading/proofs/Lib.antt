@@ -1,5 +1,8 @@
 pub mod Collecting
 pub mod Drawing
+pub mod Inserting
+pub mod Lowering
+pub mod Rounding
 pub mod Rounds
 pub mod Spelling
 pub mod Checked

@@ -1,17 +1,16 @@
 -- From the solved problem to the view that it spells. Assumes nothing.
-use Rattle.std.proofs.Common.{◌≡◌, ℕ, ◌-◌, ◌<◌, ◌≤◌, Bool, true, false, cond, ◌&&◌, ◌||◌, leb, List, length, take, sym, ap, ◌∙◌, subst, ap₂, ⊎_elim, arith}
-use Rattle.std.proofs.lemmas.Bool.{cases_lt, and_parts, leb-true}
+use Rattle.std.proofs.Common.{◌≡◌, ℕ, ◌-◌, ◌<◌, ◌≤◌, Bool, true, false, cond, ◌&&◌, ◌||◌, leb, List, length, take, sym, ap, ◌∙◌, subst, ap₂, arith}
+use Rattle.std.proofs.lemmas.Bool.{and_parts, leb-true}
 use Rattle.model.specs.declared.thresholds.Thresholds.{Thresholds}
 use Rattle.model.specs.Views.{View, is_mark}
 use Rattle.model.proofs.Steps.{step_stands, step_head}
-use Rattle.model.proofs.Digits.{has_beyond}
 use Rattle.scale.specs.declared.scale.Scale.{Ghosts}
 use Rattle.scale.specs.Scales.{Lawful}
-use Rattle.paths.specs.Steps.{SameSteps, value, view_steps, Meets}
+use Rattle.paths.specs.Steps.{value, view_steps, Meets}
 use Rattle.paths.specs.Walks.{Walk}
 use Rattle.paths.specs.Bests.{Best, Forbids}
 use Rattle.paths.specs.Descents.{Loop, Written}
-use Rattle.paths.proofs.Walking.{walk_same, walk_extent, walks_bound}
+use Rattle.paths.proofs.Walking.{SameSteps, walk_same, walk_extent, walks_bound}
 use Rattle.paths.proofs.Written.{forbids_made}
 use Rattle.grading.specs.declared.problem.Problem.{Problem}
 use Rattle.grading.specs.Settling.{Settled}
@@ -70,10 +69,7 @@ module _ {V : Type 0} (s : Ghosts V) (laws : Lawful s) (w : View) (t : Threshold
     }
 
     pub others_kept : (u : ℕ) → (u < 64 → w.stands u ≡ false) → at s after u ≡ at s before u
-    others_kept u f = copied.outside u (⊎_elim
-        (λ (l : u < 64). spells.draws.stands u l ∙ f l)
-        (λ (l : 64 ≤ u). has_beyond p.graph.standing u (omega arith))
-        (cases_lt u 64))
+    others_kept u f = copied.outside u (λ l. spells.draws.stands u l ∙ f l)
 
   pub forbids_shown : (ys xs : List ℕ) (low high : ℕ) → Loop s (problem_steps p) ys low high → Written ys low high xs → 64 ≤ length xs → Forbids s w t (take (high - low) xs)
   forbids_shown ys xs low high loop written room = forbids_made s laws (problem_steps p) w t same_steps ys xs low high loop written room

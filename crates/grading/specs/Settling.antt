@@ -2,10 +2,8 @@
 use Rattle.std.specs.Prelude.{◌≡◌, ℕ, ◌+◌, ◌<◌, false, List, [], slice_index, slice_index_or}
 use Rattle.scale.specs.declared.scale.Scale.{Ghosts}
 use Rattle.paths.specs.Steps.{Steps, Meets}
-use Rattle.paths.specs.Levels.{chosen, level}
 use Rattle.paths.specs.Walks.{Walk}
-use Rattle.paths.specs.Descents.{Falls}
-use Rattle.grading.specs.Problems.{at}
+use Rattle.paths.specs.Descents.{Falls, Leads}
 
 -- p meets every step, is nowhere above nothing, and is at each record the sum of a walk of at most 64 steps
 pub record Settled {V : Type 0} (s : Ghosts V) (steps : Steps V) (p : ℕ → V) : Type 0 where
@@ -13,15 +11,9 @@ pub record Settled {V : Type 0} (s : Ghosts V) (steps : Steps V) (p : ℕ → V)
   pub low : (u : ℕ) → u < 64 → s.less s.nothing (p u) ≡ false
   pub walk : (u : ℕ) → u < 64 → Walk s steps 64 u (p u)
 
--- row j of ns says what each record of the layer j + 1 is reached by
+-- row j of ns says of each record at which the layer j + 1 falls by which step it does
 abbrev pub NextRow : {V : Type 0} → Ghosts V → Steps V → List (List ℕ) → ℕ → Type 0
-NextRow s steps ns j = (u : ℕ) → u < 64 → slice_index (slice_index_or ns j []) u ≡ chosen s steps (level s steps 64 j) u 64
-
--- after k rounds, fewer than 64: `old` is the layer k, and the rows below k say what the layers are reached by
-pub record Running {V : Type 0} (s : Ghosts V) (steps : Steps V) (k : ℕ) (old : List V) (ns : List (List ℕ)) : Type 0 where
-  pub early : k < 64
-  pub layer : (u : ℕ) → u < 64 → at s old u ≡ level s steps 64 k u
-  pub nexts : (j : ℕ) → j < k → NextRow s steps ns j
+NextRow s steps ns j = Leads s steps j (λ u. slice_index (slice_index_or ns j []) u)
 
 -- the layer k + 1 is below the layer k at u, and ns has the way down
 pub record Fallen {V : Type 0} (s : Ghosts V) (steps : Steps V) (ns : List (List ℕ)) (k u : ℕ) : Type 0 where

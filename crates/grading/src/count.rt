@@ -2,8 +2,7 @@
 ghost use Rattle.std.specs.Prelude.{◌≡◌, ℕ, ◌+◌, ◌<◌, ◌≤◌, length, slice_index};
 ghost use Rattle.model.specs.Views.{View};
 ghost use Rattle.model.specs.Rings.{bit};
-ghost use Rattle.grading.specs.Graphs.{Draws};
-ghost use Rattle.grading.specs.Problems.{graph_marks, graph_hops};
+ghost use Rattle.grading.specs.Graphs.{graph_marks, graph_hops, Draws};
 ghost use Rattle.grading.specs.Counts.{Counted};
 
 use crate::graph::Graph;

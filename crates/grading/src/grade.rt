@@ -3,8 +3,8 @@ ghost use Rattle.std.specs.Prelude.{◌<◌};
 ghost use Rattle.sheet.specs.Views.{view_of};
 ghost use Rattle.grading.specs.Outcomes.{brought, SameLent, Grades};
 
-use crate::graph::read;
 use crate::memory::Memory;
+use crate::read::read;
 use crate::solve::solve_graph;
 use model::decline::Decline;
 use model::thresholds::Thresholds;

@@ -12,8 +12,9 @@ ghost use Rattle.grading.specs.Ratios.{RatioFound, ratio, Climbed, answer_to};
 
 use crate::count::{Tally, count_steps};
 use crate::forbidden::Forbidden;
-use crate::graph::{Graph, read};
+use crate::graph::Graph;
 use crate::memory::Memory;
+use crate::read::read;
 use crate::solve::solve_graph;
 use model::decline::Decline;
 use model::thresholds::Thresholds;

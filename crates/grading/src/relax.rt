@@ -1,77 +1,72 @@
 // Bellman and Ford's relaxation, one round of it, on any scale.
-ghost use Rattle.std.specs.Prelude.{◌≡◌, ℕ, ◌<◌, length, MatchOption};
-ghost use Rattle.grading.specs.Problems.{at, problem_steps, Costs, Ready};
-ghost use Rattle.grading.specs.Relaxing.{Tried, Relaxed, Rounded, NoFall, Fall};
+ghost use Rattle.std.specs.Prelude.{◌≡◌, ℕ, ◌<◌, true, false, length};
+ghost use Rattle.model.specs.Sets.{has};
+ghost use Rattle.grading.specs.Problems.{at, problem_steps, Ready};
+ghost use Rattle.grading.specs.Rising.{Rising};
+ghost use Rattle.grading.specs.Relaxing.{Lowered, by_value, by_steps, Below, Quiet, Rounded, falls_at};
+ghost use Rattle.grading.specs.Rows.{Collected};
 
+use crate::collect::collect;
 use crate::problem::Problem;
+use crate::rising::rising;
+use model::bits::{common, take_lowest, without};
 use scale::scale::Scale;
 
-// The least value of a record so far, and the record that it is reached by: 64 for none, as in the caller's bytes, to which it goes at
-// once. As an Option it would be made here and taken apart there.
-#[derive(Clone, Copy)]
-pub struct Reached<V> {
-    pub least: V,
-    pub next: u8,
-}
-
-// The value of the step from u to v, and then of `there`.
-fn step_to<V: Scale>(problem: &Problem<V>, u: usize, v: usize, there: V) -> V
-    requires { (u < 64) × Costs V.Scale problem.now × V.Scale.extent there 64 }
-    ensures { result ≡ V.Scale.plus ((problem_steps problem.now).cost u v) there }
+// Lowers the records of the set to the value, where it is less than theirs: they are reached by v.
+fn lower<V: Scale>(set: u64, value: V, v: u8, to: &mut [V], next: &mut [u8; 64])
+    requires { length to.old ≡ 64 }
+    ensures lowered { Lowered V.Scale (by_value set value v) to.old to.new next.old next.new }
+    ensures below { (u : ℕ) → u < 64 → has set u ≡ true → V.Scale.less value (at V.Scale to.new u) ≡ false }
 {
-    problem.cost_of(u, v).sum(there)
-}
-
-// Goes on from `best` by the step from u to v, where there is one, with the value that is there.
-fn try_step<V: Scale>(
-    problem: &Problem<V>,
-    u: usize,
-    v: usize,
-    there: V,
-    best: Reached<V>,
-) -> Reached<V>
-    requires { (u < 64) × (v < 64) × Costs V.Scale problem.now × V.Scale.extent there 64 }
-    ensures { Tried V.Scale (problem_steps problem.now) there u v best result }
-{
-    if problem.has_step(u, v) {
-        let tried = step_to(problem, u, v, there);
-        if tried.less(&best.least) {
-            return Reached {
-                least: tried,
-                next: v as u8,
-            };
+    let mut rest = set;
+    while let Some(u) = take_lowest(&mut rest) {
+        if value.less(&to[u]) {
+            to[u] = value;
+            next[u] = v;
         }
     }
-    best
 }
 
-// The least of `from` at u and of the steps from u, each with `from` where it leads.
-fn relax_record<V: Scale>(problem: &Problem<V>, from: &[V], u: usize) -> Reached<V>
-    requires { (u < 64) × Ready V.Scale problem.now from.now }
-    ensures { Relaxed V.Scale (problem_steps problem.now) (at V.Scale from.now) u 64 result }
+// Relaxes all steps of one kind to the records of the order: row v of `rows` has the records that such a step to v leads from. A record that
+// a step has reached is left out from then on, since the values that follow are no lower.
+fn relax_kind<V: Scale>(
+    cost: V,
+    rows: &[u64; 64],
+    order: &[u8],
+    from: &[V],
+    to: &mut [V],
+    next: &mut [u8; 64],
+)
+    requires { Ready V.Scale cost from.now × Rising V.Scale from.now order.now × (length to.old ≡ 64) }
+    ensures lowered { Lowered V.Scale (by_steps V.Scale cost rows.now from.now) to.old to.new next.old next.new }
+    ensures below { Below V.Scale cost rows.now from.now order.now (length order.now) to.new }
 {
-    let mut best = Reached {
-        least: from[u],
-        next: 64,
-    };
-    for (v, there) in from.iter().enumerate() {
-        best = try_step(problem, u, v, *there, best);
+    let mut left = u64::MAX;
+    for v in order {
+        let row = rows[*v as usize];
+        lower(common(row, left), cost.sum(from[*v as usize]), *v, to, next);
+        left = without(left, row);
     }
-    best
 }
 
-// One round: every record is relaxed from `from` to `to`, and `next` says what it is reached by.
+// One round: every record is relaxed from `from` to `to`, and `next` says what it is reached by. Only steps to records of `fallen` are
+// looked at: all others are met already.
 // Rows of values are slices: that an array of 64 values fits in memory is known of no scale, and the proof did not close.
-pub fn relax_round<V: Scale>(problem: &Problem<V>, from: &[V], to: &mut [V], next: &mut [u8; 64])
-    requires { (length to.old ≡ 64) × Ready V.Scale problem.now from.now }
-    ensures { Rounded V.Scale (problem_steps problem.now) (at V.Scale from.now) 64 to.new next.new }
+pub fn relax_round<V: Scale>(
+    problem: &Problem<V>,
+    fallen: u64,
+    from: &[V],
+    to: &mut [V],
+    next: &mut [u8; 64],
+)
+    requires ready { (length to.old ≡ 64) × Ready V.Scale problem.now.mark from.now × Ready V.Scale problem.now.hop from.now }
+    requires quiet { Quiet V.Scale (problem_steps problem.now) fallen (at V.Scale from.now) }
+    ensures { Rounded V.Scale (problem_steps problem.now) (at V.Scale from.now) to.new next.new }
 {
-    // not the zip of both rows: the proof did not close, since it does not tell what they hold in the end
-    for (u, least) in to.iter_mut().enumerate() {
-        let best = relax_record(problem, from, u);
-        *least = best.least;
-        next[u] = best.next;
-    }
+    to.copy_from_slice(from);
+    let order = rising(fallen, from);
+    relax_kind(problem.mark, &problem.graph.marks, &order, from, to, next);
+    relax_kind(problem.hop, &problem.graph.hops, &order, from, to, next);
 }
 
 pub fn clear<V: Scale>(row: &mut [V])
@@ -83,10 +78,17 @@ pub fn clear<V: Scale>(row: &mut [V])
     }
 }
 
-// The first record at which `new` is below `old`.
-pub fn first_fall<V: Scale>(old: &[V], new: &[V]) -> Option<usize>
-    requires { (length old.now ≡ 64) × (length new.now ≡ 64) }
-    ensures { MatchOption result (NoFall V.Scale 64 old.now new.now) (λ u. Fall V.Scale old.now new.now u) }
+fn falls<V: Scale>(old: &[V], new: &[V], u: usize) -> bool
+    requires { (length old.now ≡ 64) × (length new.now ≡ 64) × (u < 64) }
+    ensures { result ≡ falls_at V.Scale old.now new.now u }
 {
-    old.iter().zip(new).position(|(old, new)| new.less(old))
+    new[u].less(&old[u])
+}
+
+// The records at which `new` is below `old`.
+pub fn fallen<V: Scale>(old: &[V], new: &[V]) -> u64
+    requires { (length old.now ≡ 64) × (length new.now ≡ 64) }
+    ensures { Collected (falls_at V.Scale old.now new.now) 64 result }
+{
+    collect(|u| falls(old, new, u))
 }

@@ -6,7 +6,8 @@ ghost use Rattle.grading.specs.Settling.{Settled};
 
 use crate::descent::{Span, find_repeat, walk_down};
 use crate::problem::Problem;
-use crate::relax::{clear, first_fall, relax_round};
+use crate::relax::{clear, fallen, relax_round};
+use model::bits::lowest;
 use scale::scale::Scale;
 
 // Ok: `old` meets every step. Err: where on the walk there is a ring whose sum is below nothing.
@@ -21,10 +22,12 @@ pub fn settle<V: Scale>(
     ensures { MatchResult result (λ _. Settled V.Scale (problem_steps problem.now) (at V.Scale old.new)) (λ s. Loop V.Scale (problem_steps problem.now) walk.new s.low s.high) }
 {
     clear(old);
+    let mut fell = u64::MAX;
     // k counts the rounds: the rows up to k are read in the round that writes row k
     for k in 0..64 {
-        relax_round(problem, old, new, &mut next[k]);
-        let Some(u) = first_fall(old, new) else {
+        relax_round(problem, fell, old, new, &mut next[k]);
+        fell = fallen(old, new);
+        let Some(u) = lowest(fell) else {
             return Ok(());
         };
         walk_down(problem, next, k, u, walk);

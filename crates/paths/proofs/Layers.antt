@@ -5,7 +5,7 @@ use Rattle.scale.specs.declared.scale.Scale.{Ghosts}
 use Rattle.scale.specs.Scales.{Lawful}
 use Rattle.scale.proofs.Order.{by_bool, proved, clash, asym, lt_le_trans, le_trans, falls}
 use Rattle.paths.specs.Steps.{Steps}
-use Rattle.paths.specs.Levels.{pick, reach, chosen, level}
+use Rattle.paths.specs.Levels.{pick, reach, level}
 use Rattle.paths.specs.Walks.{total}
 
 -- v is below suc n: it is n, or below n
@@ -67,22 +67,14 @@ module _ {V : Type 0} (s : Ghosts V) (laws : Lawful s) where
         go (inl e) ih = subst (λ (w : ℕ). less (plus (steps.cost u w) (prev w)) (reach s steps prev u (suc n)) ≡ false) (sym e) (pick_below (steps.has u n) (plus (steps.cost u n) (prev n)) (reach s steps prev u n) (subst (λ (w : ℕ). steps.has u w ≡ true) e is))
         go (inr l) ih = le_trans s laws (reach s steps prev u (suc n)) (reach s steps prev u n) (plus (steps.cost u v) (prev v)) (pick_at_most (steps.has u n) (plus (steps.cost u n) (prev n)) (reach s steps prev u n)) (ih l)
 
-    -- what the chosen node c tells of the least r over the nodes below n
-    abbrev Told : ℕ → V → ℕ → Type 0
-    Told n r c = ((c ≡ 64) × (r ≡ prev u)) ⊎ ((c < n) × (steps.has u c ≡ true) × (r ≡ plus (steps.cost u c) (prev c)) × (less r (prev u) ≡ true))
-
-    told : (n : ℕ) → Told n (reach s steps prev u n) (chosen s steps prev u n)
-    unfolding reach chosen
-    told zero = inl (refl, refl)
-    told (suc n) =
-        more (told n) (steps.has u n) (less (plus (steps.cost u n) (prev n)) (reach s steps prev u n)) refl refl
+    -- the least is the one value that is at most prev u and each step, and is one of these
+    pub reach_is : (n : ℕ) (r : V) → less (prev u) r ≡ false → ((v : ℕ) → v < n → steps.has u v ≡ true → less (plus (steps.cost u v) (prev v)) r ≡ false)
+        → (r ≡ prev u) ⊎ ((v : ℕ) × (v < n) × (steps.has u v ≡ true) × (r ≡ plus (steps.cost u v) (prev v))) → r ≡ reach s steps prev u n
+    reach_is n r low below is = laws.total r (reach s steps prev u n) (one_of is) (reach_keeps (λ (z : V). less z r ≡ false) n low below)
       where
-        more : Told n (reach s steps prev u n) (chosen s steps prev u n) → (p q : Bool) → steps.has u n ≡ p → less (plus (steps.cost u n) (prev n)) (reach s steps prev u n) ≡ q → Told (suc n) (cond (p && q) (plus (steps.cost u n) (prev n)) (reach s steps prev u n)) (cond (p && q) n (chosen s steps prev u n))
-        more ih true true e f = inr (omega arith, e, refl, lt_le_trans s laws (plus (steps.cost u n) (prev n)) (reach s steps prev u n) (prev u) f (reach_at_most n))
-        more (inl h) true false e f = inl h
-        more (inr h) true false e f = inr (omega arith, h.1, h.2, h.3)
-        more (inl h) false q e f = inl h
-        more (inr h) false q e f = inr (omega arith, h.1, h.2, h.3)
+        one_of : (r ≡ prev u) ⊎ ((v : ℕ) × (v < n) × (steps.has u v ≡ true) × (r ≡ plus (steps.cost u v) (prev v))) → less r (reach s steps prev u n) ≡ false
+        one_of (inl e) = subst (λ (z : V). less z (reach s steps prev u n) ≡ false) (sym e) (reach_at_most n)
+        one_of (inr (v, l, has, e)) = subst (λ (z : V). less z (reach s steps prev u n) ≡ false) (sym e) (reach_below n v l has)
 
   -- ---- all nodes below n
   module _ (steps : Steps V) (n : ℕ) where
@@ -102,18 +94,6 @@ module _ {V : Type 0} (s : Ghosts V) (laws : Lawful s) where
     -- a layer that the next one repeats meets every step
     pub settled : (k : ℕ) → ((u : ℕ) → u < n → level s steps n (suc k) u ≡ level s steps n k u) → (u v : ℕ) → u < n → v < n → steps.has u v ≡ true → less (plus (steps.cost u v) (level s steps n k v)) (level s steps n k u) ≡ false
     settled k same u v hu hv is = subst (λ (z : V). less (plus (steps.cost u v) (level s steps n k v)) z ≡ false) (same u hu) (level_below k u v hv is)
-
-    -- the node that a layer fell by: a step leads there, with the layer before
-    abbrev pub next_of : ℕ → ℕ → ℕ
-    next_of k u = chosen s steps (level s steps n k) u n
-
-    pub fell : (k u : ℕ) → less (level s steps n (suc k) u) (level s steps n k u) ≡ true → (next_of k u < n) × (steps.has u (next_of k u) ≡ true) × (level s steps n (suc k) u ≡ plus (steps.cost u (next_of k u)) (level s steps n k (next_of k u)))
-    unfolding level
-    fell k u lt = go (told steps (level s steps n k) u n)
-      where
-        go : Told steps (level s steps n k) u n (reach s steps (level s steps n k) u n) (next_of k u) → (next_of k u < n) × (steps.has u (next_of k u) ≡ true) × (reach s steps (level s steps n k) u n ≡ plus (steps.cost u (next_of k u)) (level s steps n k (next_of k u)))
-        go (inl h) = absurd (clash (less (level s steps n k u) (level s steps n k u)) (subst (λ (z : V). less z (level s steps n k u) ≡ true) h.1 lt) (laws.irrefl (level s steps n k u)))
-        go (inr h) = (h.0, h.1, h.2)
 
     -- where a layer fell by the step to v, the layer before had fallen at v: else it had been reached a layer earlier
     pub fell_again : (k u v : ℕ) → less (level s steps n (suc (suc k)) u) (level s steps n (suc k) u) ≡ true → v < n → steps.has u v ≡ true → level s steps n (suc (suc k)) u ≡ plus (steps.cost u v) (level s steps n (suc k) v) → less (level s steps n (suc k) v) (level s steps n k v) ≡ true

@@ -4,17 +4,15 @@ use Rattle.std.proofs.lemmas.Bool.{cases_eq}
 use Rattle.scale.specs.declared.scale.Scale.{Ghosts}
 use Rattle.scale.specs.Scales.{Lawful}
 use Rattle.paths.specs.Steps.{Steps}
-use Rattle.paths.specs.Levels.{chosen, level}
+use Rattle.paths.specs.Levels.{level}
 use Rattle.paths.specs.Walks.{total}
-use Rattle.paths.specs.Descents.{Falls, Down, Walked, Repeat, Loop}
-use Rattle.paths.proofs.Layers.{fell, fell_again, ring_below, down}
+use Rattle.paths.specs.Descents.{Falls, Down, Leads, Walked, Repeat, Loop}
+use Rattle.paths.proofs.Layers.{fell_again, ring_below, down}
 
 module _ {V : Type 0} (s : Ghosts V) (laws : Lawful s) (steps : Steps V) where
   -- one step further down: to the node that the layer was reached by, where the layer below fell too
-  walk_down : (ys : List ℕ) (top k v : ℕ) → length ys ≡ 65 → top ≤ 64 → Walked s steps ys top (suc k) → v ≡ chosen s steps (level s steps 64 k) (get_or ys (suc k) 0) 64 → Walked s steps (set ys k v) top k
-  walk_down ys top k v len room w v_is =
-      let lt : Falls s steps k (get_or ys (suc k) 0) = w.falls k refl in
-      let step = rw (← v_is) at (fell s laws steps 64 k (get_or ys (suc k) 0) lt) in
+  walk_down : (ys : List ℕ) (top k v : ℕ) → length ys ≡ 65 → top ≤ 64 → Walked s steps ys top (suc k) → (v < 64) × Down s steps k (get_or ys (suc k) 0) v → Walked s steps (set ys k v) top k
+  walk_down ys top k v len room w step =
       let tops : suc k ≤ top = w.under in
       let here : get_or (set ys k v) k 0 ≡ v = get_or-set_same ys k v 0 (omega arith) in
       let other : (j : ℕ) → k < j → get_or (set ys k v) j 0 ≡ get_or ys j 0 = λ j l. get_or-set_other ys k j v 0 (omega arith) in
@@ -24,9 +22,9 @@ module _ {V : Type 0} (s : Ghosts V) (laws : Lawful s) (steps : Steps V) where
             (λ (e : j ≡ k). subst (λ (i : ℕ). get_or (set ys k v) i 0 < 64) (sym e) (rw here step.0))
             (λ (n : j ≡ k → ⊥). let l' : k < j = omega arith in rw (other j l') (w.nodes j l' u))
             (cases_eq j k);
-        falls = λ i e. subst (Falls s steps i) (sym here) (again i e step.0 step.1 step.2);
+        falls = λ i e. subst (Falls s steps i) (sym here) (again i e step.0 step.1.0 step.1.1);
         down = λ j l u. ⊎_elim
-            (λ (e : j ≡ k). subst (λ (i : ℕ). Down s steps i (get_or (set ys k v) (suc i) 0) (get_or (set ys k v) i 0)) (sym e) (subst₂ (Down s steps k) (sym (other (suc k) (omega arith))) (sym here) (step.1, step.2, lt)))
+            (λ (e : j ≡ k). subst (λ (i : ℕ). Down s steps i (get_or (set ys k v) (suc i) 0) (get_or (set ys k v) i 0)) (sym e) (subst₂ (Down s steps k) (sym (other (suc k) (omega arith))) (sym here) step.1))
             (λ (n : j ≡ k → ⊥). let l' : k < j = omega arith in subst₂ (Down s steps j) (sym (other (suc j) (omega arith))) (sym (other j l')) (w.down j l' u))
             (cases_eq j k);
       }
@@ -39,12 +37,12 @@ module _ {V : Type 0} (s : Ghosts V) (laws : Lawful s) (steps : Steps V) where
 
   -- one turn of the loop, in which k is t - 1 and row k of ns has the nodes of layer k
   pub walk_more : (ys : List ℕ) (ns : List (List ℕ)) (top t k : ℕ) → t ≡ suc k → length ys ≡ 65 → top ≤ 64 → Walked s steps ys top t
-      → ((j : ℕ) → j < top → (u : ℕ) → u < 64 → get_or (get_or ns j []) u 0 ≡ chosen s steps (level s steps 64 j) u 64)
+      → ((j : ℕ) → j < top → Leads s steps j (λ u. get_or (get_or ns j []) u 0))
       → Walked s steps (set ys k (get_or (get_or ns k []) (get_or ys (k + 1) 0) 0)) top k
   walk_more ys ns top t k e len room w next =
       let w' : Walked s steps ys top (suc k) = subst (Walked s steps ys top) e w in
       let tops : suc k ≤ top = w'.under in
-      rw (add-one k) (walk_down ys top k (get_or (get_or ns k []) (get_or ys (suc k) 0) 0) len room w' (next k (omega arith) (get_or ys (suc k) 0) (w'.nodes (suc k) (omega arith) (omega arith))))
+      rw (add-one k) (walk_down ys top k (get_or (get_or ns k []) (get_or ys (suc k) 0) 0) len room w' (next k (omega arith) (get_or ys (suc k) 0) (w'.nodes (suc k) (omega arith) (omega arith)) (w'.falls k refl)))
 
   pub loop_made : (ys : List ℕ) (top low high : ℕ) → Walked s steps ys top 0 → Repeat ys low high → high ≤ top → Loop s steps ys low high
   loop_made ys top low high w f room =

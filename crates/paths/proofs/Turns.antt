@@ -2,24 +2,16 @@
 use Rattle.std.proofs.Common.{◌≡◌, ℕ, zero, suc, ◌+◌, ◌<◌, Bool, cond, ◌&&◌, refl, ap₂, add-one, arith}
 use Rattle.scale.specs.declared.scale.Scale.{Ghosts}
 use Rattle.paths.specs.Steps.{Steps}
-use Rattle.paths.specs.Levels.{pick, reach, chosen, level}
+use Rattle.paths.specs.Levels.{pick, reach, level}
 
 module _ {V : Type 0} (s : Ghosts V) (steps : Steps V) (prev : ℕ → V) (u : ℕ) where
   pub reach_none : reach s steps prev u 0 ≡ prev u
   unfolding reach
   reach_none = refl
 
-  pub chosen_none : chosen s steps prev u 0 ≡ 64
-  unfolding chosen
-  chosen_none = refl
-
   pub reach_more : (v : ℕ) → reach s steps prev u (v + 1) ≡ pick s (steps.has u v) (s.plus (steps.cost u v) (prev v)) (reach s steps prev u v)
   unfolding reach
   reach_more v = rw (add-one v)
-
-  pub chosen_more : (v : ℕ) → chosen s steps prev u (v + 1) ≡ cond (steps.has u v && s.less (s.plus (steps.cost u v) (prev v)) (reach s steps prev u v)) v (chosen s steps prev u v)
-  unfolding chosen
-  chosen_more v = rw (add-one v)
 
 -- what is reached goes by prev at u and at the nodes below n alone
 module _ {V : Type 0} (s : Ghosts V) (steps : Steps V) (prev prev' : ℕ → V) (u : ℕ) where
@@ -27,13 +19,6 @@ module _ {V : Type 0} (s : Ghosts V) (steps : Steps V) (prev prev' : ℕ → V) 
   unfolding reach
   reach_same zero e f = e
   reach_same (suc n) e f = ap₂ (λ (p r : V). pick s (steps.has u n) (s.plus (steps.cost u n) p) r) (f n (omega arith)) (reach_same n e (λ v h. f v (omega arith)))
-
-  pub chosen_same : (n : ℕ) → prev u ≡ prev' u → ((v : ℕ) → v < n → prev v ≡ prev' v) → chosen s steps prev u n ≡ chosen s steps prev' u n
-  unfolding chosen
-  chosen_same zero e f = refl
-  chosen_same (suc n) e f = ap₂ (λ (t : Bool) (c : ℕ). cond t n c)
-      (ap₂ (λ (p r : V). steps.has u n && s.less (s.plus (steps.cost u n) p) r) (f n (omega arith)) (reach_same n e (λ v h. f v (omega arith))))
-      (chosen_same n e (λ v h. f v (omega arith)))
 
 module _ {V : Type 0} (s : Ghosts V) (steps : Steps V) (n : ℕ) where
   pub level_none : (u : ℕ) → level s steps n 0 u ≡ s.nothing

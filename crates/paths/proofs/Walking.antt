@@ -1,10 +1,10 @@
 -- Walks: each layer is the sum of one, and what their sums are bounded by. Assumes nothing.
-use Rattle.std.proofs.Common.{ℕ, zero, suc, ◌+◌, ◌<◌, ◌≤◌, sym, ◌∙◌, subst, one-add, arith}
+use Rattle.std.proofs.Common.{◌≡◌, ℕ, zero, suc, ◌+◌, ◌<◌, ◌≤◌, sym, ◌∙◌, subst, one-add, arith}
 use Rattle.model.proofs.Steps.{step_head}
 use Rattle.scale.specs.declared.scale.Scale.{Ghosts}
 use Rattle.scale.specs.Scales.{Lawful}
 use Rattle.scale.proofs.Order.{le_trans, le_plus}
-use Rattle.paths.specs.Steps.{Steps, SameSteps, view_steps}
+use Rattle.paths.specs.Steps.{Steps, view_steps}
 use Rattle.paths.specs.Levels.{level}
 use Rattle.paths.specs.Walks.{Walk, stop, go}
 use Rattle.paths.specs.Statements.{WalksBound}
@@ -35,6 +35,11 @@ module _ {V : Type 0} (s : Ghosts V) (laws : Lawful s) (steps : Steps V) where
   walk_extent each (suc k) u z h stop = laws.more_extent s.nothing k (walk_extent each k u s.nothing (omega arith) stop)
   walk_extent each (suc k) u z h (go v l is w) =
       subst (s.extent _) (one-add k) (laws.sum_extent (steps.cost u v) _ 1 k (each u v) (walk_extent each k v _ (omega arith) w) (omega arith))
+
+-- the same steps between records, with the same values
+pub record SameSteps {V : Type 0} (a b : Steps V) : Type 0 where
+  pub has : (u v : ℕ) → u < 64 → v < 64 → a.has u v ≡ b.has u v
+  pub cost : (u v : ℕ) → u < 64 → v < 64 → a.cost u v ≡ b.cost u v
 
 -- the same walk over the same steps
 module _ {V : Type 0} (s : Ghosts V) (a b : Steps V) (same : SameSteps a b) where

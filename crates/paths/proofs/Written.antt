@@ -9,10 +9,11 @@ use Rattle.model.proofs.Steps.{step_apart, step_stands, other}
 use Rattle.model.proofs.Rounds.{turned, round_steps}
 use Rattle.scale.specs.declared.scale.Scale.{Ghosts}
 use Rattle.scale.specs.Scales.{Lawful}
-use Rattle.paths.specs.Steps.{Steps, SameSteps, view_steps}
+use Rattle.paths.specs.Steps.{Steps, view_steps}
 use Rattle.paths.specs.Walks.{total, sum_round}
 use Rattle.paths.specs.Bests.{Forbids}
 use Rattle.paths.specs.Descents.{Loop, Written}
+use Rattle.paths.proofs.Walking.{SameSteps}
 use Rattle.paths.proofs.Sums.{times, total_counts, round_counts}
 use Rattle.paths.proofs.Unrolled.{plain, plain_long, plain_at, plain_round, down_here, down_next, is_turned, ring_sum}
 

@@ -12,11 +12,6 @@ unfoldable pub reach : {V : Type 0} → Ghosts V → Steps V → (ℕ → V) →
 reach s steps prev u zero = prev u
 reach s steps prev u (suc v) = pick s (steps.has u v) (s.plus (steps.cost u v) (prev v)) (reach s steps prev u v)
 
--- the last node that made it less, or 64
-unfoldable pub chosen : {V : Type 0} → Ghosts V → Steps V → (ℕ → V) → ℕ → ℕ → ℕ
-chosen s steps prev u zero = 64
-chosen s steps prev u (suc v) = cond (steps.has u v && s.less (s.plus (steps.cost u v) (prev v)) (reach s steps prev u v)) v (chosen s steps prev u v)
-
 -- the layer k at u, over n nodes: nothing at first, and then the least of the layer before and the steps to it
 unfoldable pub level : {V : Type 0} → Ghosts V → Steps V → ℕ → ℕ → ℕ → V
 level s steps n zero u = s.nothing

@@ -19,7 +19,7 @@ abbrev pub NoneAboveZero : View → (ℕ → ℤ) → Type 0
 NoneAboveZero w z = (u : ℕ) → u < 64 → w.stands u ≡ true → z u ≤ℤ pos 0
 
 -- a loose grading to the denominator 1 without a grade above 0, each of at most 64 steps of t1 or t2 in size; no loose grading q
--- without a grade above 0, to any denominator d, is higher: q u / d is at most z u at every standing record
+-- without a grade above 0, to any denominator d, is higher: q u is at most d times z u at every standing record
 pub record BestLoose (w : View) (t : Thresholds) (z : ℕ → ℤ) : Type 0 where
   pub loose : Loose w t 1 z
   pub low : NoneAboveZero w z

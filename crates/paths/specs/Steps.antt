@@ -16,11 +16,6 @@ value s w t u v = cond (is_mark w u v) (s.mark t) (s.hop t)
 abbrev pub view_steps : {V : Type 0} → Ghosts V → View → Thresholds → Steps V
 view_steps s w t = record { has = is_step w; cost = value s w t }
 
--- the same steps between records, with the same values
-pub record SameSteps {V : Type 0} (a b : Steps V) : Type 0 where
-  pub has : (u v : ℕ) → u < 64 → v < 64 → a.has u v ≡ b.has u v
-  pub cost : (u v : ℕ) → u < 64 → v < 64 → a.cost u v ≡ b.cost u v
-
 -- p at u is at most p at v plus the value of the step from u to v, for every step
 abbrev pub Meets : {V : Type 0} → Ghosts V → Steps V → (ℕ → V) → Type 0
 Meets s steps p = (u v : ℕ) → u < 64 → v < 64 → steps.has u v ≡ true → s.less (s.plus (steps.cost u v) (p v)) (p u) ≡ false

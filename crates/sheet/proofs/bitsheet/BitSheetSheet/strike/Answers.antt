@@ -16,7 +16,7 @@ written : (c : After-set_row) → let old = c.args.self.now in
 written c =
     let wrote = c.set_row.ensures in
     written_back c.args.self.now.table.rows c.set_row.new.self.rows c.without_bit.result c.in_ok-check_pair.ensures
-    c.row-row.ensures (λ low. c.without_bit.ensures) wrote.rows wrote.long
+    c.row-row.ensures (λ low. c.without_bit.ensures.rest) wrote.rows wrote.long
 
 pub invariant_of-self : goal.invariant_of-self
 invariant_of-self c =

@@ -1,7 +1,7 @@
 use Rattle.std.proofs.Common.{sym, ◌∙◌}
 use Rattle.grading.proofs.Collecting.{none_collected, collected_with, collected_without}
-use Rattle.grading.proofs.graph.collect.Goals as goal
-use Rattle.grading.proofs.graph.collect.Goals.{then-passes, else-passes}
+use Rattle.grading.proofs.collect.collect.Goals as goal
+use Rattle.grading.proofs.collect.collect.Goals.{then-passes, else-passes}
 
 pub loop-u-init : goal.loop-u-init
 loop-u-init g c f told = none_collected f

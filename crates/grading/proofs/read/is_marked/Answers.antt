@@ -2,7 +2,7 @@ use Rattle.std.proofs.Common.{◌≡◌, Bool, true, false, ◌&&◌, sym, ap, �
 use Rattle.model.specs.Views.{View, two}
 use Rattle.sheet.specs.Views.{view_of}
 use Rattle.grading.proofs.Collecting.{both_two, mark_by}
-use Rattle.grading.proofs.graph.is_marked.Goals as goal
+use Rattle.grading.proofs.read.is_marked.Goals as goal
 
 pub returns-then-both : goal.returns-then-both
 returns-then-both g c =

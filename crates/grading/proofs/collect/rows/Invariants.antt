@@ -1,6 +1,6 @@
 use Rattle.std.proofs.Common.{◌≡◌, ℕ, ◌<◌, Bool, get_or}
-use Rattle.grading.specs.Graphs.{Collected}
-use Rattle.grading.proofs.graph.rows.Given as goal
+use Rattle.grading.specs.Rows.{Collected}
+use Rattle.grading.proofs.collect.rows.Given as goal
 
 abbrev pub invariant-loop-u : goal.invariant-loop-u
 invariant-loop-u g l = (f : ℕ → ℕ → Bool) → ((u v : ℕ) (b : Bool) → u < 64 → v < 64 → goal.F-post g l.passes u v b → b ≡ f u v)

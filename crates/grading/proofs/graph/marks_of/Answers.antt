@@ -1,7 +1,0 @@
-use Rattle.std.proofs.Common.{rules}
-use Rattle.model.specs.Views.{is_mark}
-use Rattle.sheet.specs.Views.{view_of}
-use Rattle.grading.proofs.graph.marks_of.Goals as goal
-
-pub returns : goal.returns
-returns g c = c.rows.ensures (is_mark (view_of g.S.Sheet c.args.sheet.now)) (λ u v b l m told. search rules)
