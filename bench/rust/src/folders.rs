@@ -11,9 +11,9 @@ pub struct Folder {
 
 const SEED: u64 = 64_512;
 
-/// So many folders. Each has 64 to 512 marks, nearly all up an order of its own; every eighth has one mark more, against another, and so a circle.
+/// So many folders. Each has 64 to 512 marks, nearly all up an order of its own; every tenth has one mark more, against another, and so a circle.
 pub fn all(count: u64) -> Vec<Folder> {
-    (0..count).map(|place| folder(&mut Chance::new(SEED, place), place % 8 == 7)).collect()
+    (0..count).map(|place| folder(&mut Chance::new(SEED, place), place % 10 == 9)).collect()
 }
 
 fn folder(chance: &mut Chance, with_circle: bool) -> Folder {

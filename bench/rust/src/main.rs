@@ -1,115 +1,128 @@
-//! Measures loose grading and the least ratio on folders of 64 records: the proved library on its two makes of sheet, and plain Rust, in one process.
-//! Prints a table of medians over the folders, and the ratios between them. Before it measures, it compares the answers.
+//! Measures gradings and the least ratio on folders of 64 records: the proved library on its two makes of sheet, the second implementation of
+//! `tests/peer`, and a quick solver, in one process. Prints a table of medians over the folders. Before it measures, it compares the answers.
 
 mod folders;
 mod proved;
+mod questions;
 mod quick;
+mod second;
 
 use folders::Folder;
-use peer::ratio;
-use proved::{Make, Question};
+use peer::view::View;
+use questions::{Question, Told};
 use std::hint::black_box;
 use std::time::Instant;
 
-const FOLDERS: u64 = 64;
+const FOLDERS: u64 = 200;
 
 /// Each measurement is the least of so many, since a machine in use only ever adds time.
-const ROUNDS: usize = 7;
+const ROUNDS: usize = 5;
 
-/// A folder, its thresholds that can just be met, if there are any, and ones that cannot.
+/// A folder as each solver has it, and the thresholds at its least ratio, if there is one.
 struct Case {
     folder: Folder,
-    given: Option<(u32, u32)>,
-    refused: (u32, u32),
+    view: View,
+    bits: quick::Bits,
+    list: quick::List,
+    least: Option<(u32, u32)>,
 }
 
 impl Case {
     fn new(folder: Folder) -> Case {
-        let given = ratio::least(&folder.view()).thresholds().map(|(t1, t2)| (t1 as u32, t2 as u32));
-        Case { folder, given, refused: given.map_or((1, 1), |(t1, t2)| (t1 + 1, t2)) }
+        let view = folder.view();
+        let least = match second::ask(&view, Question::Ratio) {
+            Told::Ratio { marks, hops } => Some((hops as u32, marks as u32)),
+            _ => None,
+        };
+        Case { bits: quick::Bits::of(&folder), list: quick::List::of(&folder), folder, view, least }
     }
 }
+
+/// A question, asked of each folder that has it, and whether it is to be given there.
+struct Row {
+    words: &'static str,
+    question: fn(&Case) -> Option<Question>,
+    given: fn(&Case) -> bool,
+}
+
+/// At the least ratio t2/t1 loose grades are just given, and strict ones just refused. One off it, it is the other way round.
+const ROWS: [Row; 5] = [
+    Row { words: "loose, given", question: |case| case.least.map(|(t1, t2)| Question::Loose { t1, t2 }), given: |_| true },
+    Row {
+        words: "loose, refused",
+        question: |case| Some(case.least.map_or(Question::Loose { t1: 1, t2: 1 }, |(t1, t2)| Question::Loose { t1: t1 + 1, t2 })),
+        given: |_| false,
+    },
+    Row { words: "strict, given", question: |case| case.least.map(|(t1, t2)| Question::Strict { t1, t2: t2 + 1 }), given: |_| true },
+    Row {
+        words: "strict, refused",
+        question: |case| Some(case.least.map_or(Question::Strict { t1: 1, t2: 1 }, |(t1, t2)| Question::Strict { t1, t2 })),
+        given: |_| false,
+    },
+    Row { words: "least ratio", question: |_| Some(Question::Ratio), given: |case| case.least.is_some() },
+];
 
 fn main() {
     let cases: Vec<Case> = folders::all(FOLDERS).into_iter().map(Case::new).collect();
-    cases.iter().for_each(compare);
-    let circles = cases.iter().filter(|case| case.given.is_none()).count();
+    for row in &ROWS {
+        cases.iter().for_each(|case| compare(case, row));
+    }
+    let circles = cases.iter().filter(|case| case.least.is_none()).count();
     let marks = median(cases.iter().map(|case| case.folder.pairs.len() as f64).collect());
-    println!("{FOLDERS} folders of 64 records, {marks} marks in the median, {circles} with a circle\n");
-    println!("| Sheet | Question | Proved, microseconds | Rust, microseconds | Proved to Rust |\n|---|---|---|---|---|");
-    for (make, name) in [(Make::Bits, "bit sheet"), (Make::List, "list sheet")] {
-        row(name, make, "loose, given", &cases, |case| case.given.map(|(t1, t2)| Question::Loose { t1, t2 }));
-        row(name, make, "loose, refused", &cases, |case| Some(Question::Loose { t1: case.refused.0, t2: case.refused.1 }));
-        row(name, make, "least ratio", &cases, |_| Some(Question::Ratio));
+    println!("{FOLDERS} folders of 64 records, {marks} marks in the median, {circles} with a circle. Times in microseconds.\n");
+    println!("| Sheet | Question | Proved | Second | Quick | Proved to second | Proved to quick |\n|---|---|---|---|---|---|---|");
+    for row in &ROWS {
+        print("bit sheet", row, &cases, |case, question| measured(&proved::BITS, &case.bits, case, question));
+    }
+    for row in &ROWS {
+        print("list sheet", row, &cases, |case, question| measured(&proved::LIST, &case.list, case, question));
     }
 }
 
-fn row(name: &str, make: Make, words: &str, cases: &[Case], question: impl Fn(&Case) -> Option<Question>) {
-    let asked: Vec<(&Folder, Question)> = cases.iter().filter_map(|case| question(case).map(|question| (&case.folder, question))).collect();
-    let times: Vec<(f64, f64)> = asked.iter().map(|&(folder, question)| measured(make, folder, question)).collect();
-    let proved = median(times.iter().map(|time| time.0).collect());
-    let rust = median(times.iter().map(|time| time.1).collect());
-    println!("| {name} | {words} | {:.0} | {:.1} | {:.1} |", proved * 1e6, rust * 1e6, proved / rust);
+/// All solvers have to answer the same before they are measured.
+fn compare(case: &Case, row: &Row) {
+    let Some(question) = (row.question)(case) else { return };
+    let told = second::ask(&case.view, question);
+    assert_eq!(told != Told::Refused, (row.given)(case), "{question:?}");
+    for make in [&proved::BITS, &proved::LIST] {
+        assert_eq!(make.ask(&case.folder, question, 1).told(question), told, "{question:?}");
+    }
+    assert_eq!(quick::ask(&case.bits, question), told, "{question:?}");
+    assert_eq!(quick::ask(&case.list, question), told, "{question:?}");
 }
 
-/// Seconds that one question takes, proved and in Rust. Filling the proved sheet is measured alone and taken off.
-fn measured(make: Make, folder: &Folder, question: Question) -> (f64, f64) {
+fn print(sheet: &str, row: &Row, cases: &[Case], measured: impl Fn(&Case, Question) -> [f64; 3]) {
+    let times: Vec<[f64; 3]> = cases.iter().filter_map(|case| (row.question)(case).map(|question| measured(case, question))).collect();
+    let [proved, second, quick] = [0, 1, 2].map(|solver| median(times.iter().map(|time| time[solver] * 1e6).collect()));
+    let words = row.words;
+    println!("| {sheet} | {words} | {proved:.0} | {second:.0} | {quick:.0} | {:.2} | {:.1} |", proved / second, proved / quick);
+}
+
+/// Seconds that one question takes: proved, the second implementation, the quick solver. Filling the proved sheet is measured alone and taken off.
+fn measured(make: &proved::Make, sheet: &impl quick::Sheet, case: &Case, question: Question) -> [f64; 3] {
     let times = 4;
-    let (mut whole, mut filling, mut rust) = (f64::MAX, f64::MAX, f64::MAX);
-    let (bits, list) = (quick::Bits::of(folder), quick::List::of(folder));
+    let quickly = || {
+        for _ in 0..times {
+            black_box(quick::ask(black_box(sheet), question));
+        }
+    };
+    let (mut whole, mut filling, mut second, mut quick) = (f64::MAX, f64::MAX, f64::MAX, f64::MAX);
     for _ in 0..ROUNDS {
-        whole = whole.min(seconds(|| drop(black_box(proved::ask(make, black_box(folder), question, times)))));
-        filling = filling.min(seconds(|| drop(black_box(proved::ask(make, black_box(folder), question, 0)))));
-        rust = rust.min(seconds(|| {
-            for _ in 0..times {
-                match make {
-                    Make::Bits => quickly(black_box(&bits), question),
-                    Make::List => quickly(black_box(&list), question),
-                }
-            }
-        }));
+        whole = whole.min(seconds(|| make.ask(black_box(&case.folder), question, times)));
+        filling = filling.min(seconds(|| make.ask(black_box(&case.folder), question, 0)));
+        second = second.min(seconds(|| second::ask(black_box(&case.view), question)));
+        quick = quick.min(seconds(quickly));
     }
-    ((whole - filling) / f64::from(times), rust / f64::from(times))
+    [(whole - filling) / f64::from(times), second, quick / f64::from(times)]
 }
 
-fn quickly(sheet: &impl quick::Sheet, question: Question) {
-    match question {
-        Question::Loose { t1, t2 } => drop(black_box(quick::loose(sheet, t1.into(), t2.into()))),
-        Question::Ratio => drop(black_box(quick::ratio(sheet))),
-    }
-}
-
-fn seconds(act: impl FnOnce()) -> f64 {
+fn seconds<T>(act: impl FnOnce() -> T) -> f64 {
     let start = Instant::now();
-    act();
+    black_box(act());
     start.elapsed().as_secs_f64()
 }
 
 fn median(mut numbers: Vec<f64>) -> f64 {
     numbers.sort_by(f64::total_cmp);
     numbers[numbers.len() / 2]
-}
-
-/// The proved library on both makes and plain Rust have to give the same before they are measured.
-fn compare(case: &Case) {
-    let bits = quick::Bits::of(&case.folder);
-    for make in [Make::Bits, Make::List] {
-        for (t1, t2) in case.given.into_iter().chain([case.refused]) {
-            let answer = proved::ask(make, &case.folder, Question::Loose { t1, t2 }, 1);
-            let rust = quick::loose(&bits, t1.into(), t2.into());
-            assert_eq!(answer.number, if rust.is_ok() { 0 } else { 13 });
-            assert_eq!(rust.is_ok(), case.given == Some((t1, t2)));
-            if let Ok(quick::Grades(grades)) = rust {
-                assert_eq!(answer.grades, grades);
-            }
-        }
-        let answer = proved::ask(make, &case.folder, Question::Ratio, 1);
-        match quick::ratio(&bits) {
-            None => assert_eq!(answer.number, 12),
-            Some((marks, hops, _)) => {
-                assert_eq!(answer.number, 0);
-                assert_eq!(i64::from(answer.marks) * hops, marks * i64::from(answer.hops));
-            }
-        }
-    }
 }

@@ -2,6 +2,7 @@
 //! end, and a look for a ring among the steps that lowered after each pass. Nothing of it is proved.
 
 use crate::folders::Folder;
+use crate::questions::{Question, Told};
 
 /// Far above every sum of 64 steps.
 const NO_STEP: i64 = i64::MAX / 2;
@@ -42,10 +43,6 @@ impl Bits {
         List::of(folder).read()
     }
 
-    fn has(&self, u: usize) -> bool {
-        self.present >> u & 1 == 1
-    }
-
     fn marked(&self, u: usize, v: usize) -> bool {
         self.rows[u] >> v & 1 == 1
     }
@@ -57,47 +54,65 @@ impl List {
     }
 }
 
-pub struct Grades(pub [i64; 64]);
-pub struct Ring(pub Vec<u8>);
-
-pub fn loose(sheet: &impl Sheet, t1: i64, t2: i64) -> Result<Grades, Ring> {
-    settle(&weights(&sheet.read(), t1, t2))
+pub fn ask(sheet: &impl Sheet, question: Question) -> Told {
+    let read = sheet.read();
+    match question {
+        Question::Loose { t1, t2 } => told(settle(&weights(&read, -i64::from(t1), t2.into()))),
+        Question::Strict { t1, t2 } => told(settle(&weights(&read, packed(-i64::from(t1), -1), packed(t2.into(), 0)))),
+        Question::Ratio => ratio(&read),
+    }
 }
 
-fn weights(read: &Bits, t1: i64, t2: i64) -> [[i64; 64]; 64] {
+/// The pair a, b of a strict grading as one number. The search is exact on whatever whole numbers the steps have, and what it answers are sums
+/// of at most 64 steps: grades, and a ring below 0. There a sum has b from -64 to 0, so that a difference of one in a outweighs every b,
+/// and 128*a + b is less than another, or than 0, just where the pair is.
+fn packed(a: i64, b: i64) -> i64 {
+    128 * a + b
+}
+
+fn told(settled: Result<[i64; 64], Vec<u8>>) -> Told {
+    settled.map_or(Told::Refused, |grades| Told::Grades(Box::new(grades)))
+}
+
+fn weights(read: &Bits, mark: i64, hop: i64) -> [[i64; 64]; 64] {
     let mut table = [[NO_STEP; 64]; 64];
-    for u in 0..64 {
-        for v in 0..64 {
-            if u != v && read.has(u) && read.has(v) {
-                table[u][v] = if read.marked(u, v) {
-                    -t1
-                } else if read.marked(v, u) {
-                    NO_STEP
-                } else {
-                    t2
-                };
+    for u in places(read.present) {
+        for v in places(read.present & !(1 << u)) {
+            table[u][v] = hop;
+        }
+    }
+    for u in places(read.present) {
+        for v in places(read.rows[u] & read.present) {
+            table[u][v] = mark;
+            if !read.marked(v, u) {
+                table[v][u] = NO_STEP;
             }
         }
     }
     table
 }
 
-fn settle(table: &[[i64; 64]; 64]) -> Result<Grades, Ring> {
+fn places(word: u64) -> impl Iterator<Item = usize> {
+    (0..64).filter(move |place| word >> place & 1 == 1)
+}
+
+/// The grades, or a ring below 0.
+fn settle(table: &[[i64; 64]; 64]) -> Result<[i64; 64], Vec<u8>> {
     let mut grades = [0i64; 64];
     let mut next = [None; 64];
     loop {
         let mut settled = true;
         for u in 0..64 {
-            let sums: [i64; 64] = std::array::from_fn(|v| table[u][v] + grades[v]);
-            let least = sums.iter().copied().fold(i64::MAX, i64::min);
+            let sums = table[u].iter().zip(&grades).map(|(step, grade)| step + grade);
+            let least = sums.clone().fold(i64::MAX, i64::min);
             if least < grades[u] {
+                next[u] = sums.clone().position(|sum| sum == least);
                 grades[u] = least;
-                next[u] = sums.iter().position(|&sum| sum == least);
                 settled = false;
             }
         }
         if settled {
-            return Ok(Grades(grades));
+            return Ok(grades);
         }
         if let Some(ring) = round(&next) {
             return Err(ring);
@@ -106,7 +121,7 @@ fn settle(table: &[[i64; 64]; 64]) -> Result<Grades, Ring> {
 }
 
 /// The steps that lowered go round only along a ring that sums to less than nothing.
-fn round(next: &[Option<usize>; 64]) -> Option<Ring> {
+fn round(next: &[Option<usize>; 64]) -> Option<Vec<u8>> {
     let mut seen = [64; 64];
     for start in 0..64 {
         let mut at = start;
@@ -122,30 +137,26 @@ fn round(next: &[Option<usize>; 64]) -> Option<Ring> {
     None
 }
 
-fn ring_from(next: &[Option<usize>; 64], first: usize) -> Ring {
+fn ring_from(next: &[Option<usize>; 64], first: usize) -> Vec<u8> {
     let mut ring = vec![first as u8];
     let mut at = first;
     while let Some(to) = next[at].filter(|&to| to != first) {
         ring.push(to as u8);
         at = to;
     }
-    Ring(ring)
+    ring
 }
 
-/// Marks, hops and the grades there; none where a circle stands. Each ring that forbids raises the ratio to its own.
-pub fn ratio(sheet: &impl Sheet) -> Option<(i64, i64, Grades)> {
-    let read = sheet.read();
+/// Each ring that forbids raises the ratio to its own, until none does.
+fn ratio(read: &Bits) -> Told {
     let (mut marks, mut hops) = (0, 1);
-    loop {
-        let Ring(ring) = match settle(&weights(&read, hops, marks)) {
-            Ok(grades) => return Some((marks, hops, grades)),
-            Err(ring) => ring,
-        };
+    while let Err(ring) = settle(&weights(read, -hops, marks)) {
         let steps = (0..ring.len()).map(|k| (ring[k] as usize, ring[(k + 1) % ring.len()] as usize));
         marks = steps.filter(|&(u, v)| read.marked(u, v)).count() as i64;
         hops = ring.len() as i64 - marks;
         if hops == 0 {
-            return None;
+            return Told::Refused;
         }
     }
+    Told::ratio(marks, hops)
 }
