@@ -20,7 +20,7 @@ pub record Memory (V : Type 0) : Type 0 where
 abbrev pub memory : {V : Type 0} → List V → List ℕ → List V → List ℕ → Memory V
 memory grades ring values bytes = record { grades = grades; ring = ring; values = values; bytes = bytes }
 
--- what stands in memory that is lent
+-- what lies in memory that is lent
 abbrev pub brought : {V : Type 0} → Lent V → Memory V
 brought m = memory m.grades.now m.ring.now m.values.now m.bytes.now
 

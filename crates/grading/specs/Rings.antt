@@ -5,7 +5,7 @@ use Rattle.std.specs.Prelude.{◌≡◌, ℕ, ◌+◌, ◌-◌, ◌%◌, ◌<◌
 abbrev pub Unseen : List ℕ → ℕ → ℕ → Type 0
 Unseen ys high n = (i : ℕ) → i < n → slice_index ys i ≢ slice_index ys high
 
--- the place r has the smallest number above low, up to high
+-- of the places above low and up to high, r has the smallest number
 pub record Smallest (ys : List ℕ) (low high r : ℕ) : Type 0 where
   pub above : low < r
   pub within : r ≤ high

@@ -42,8 +42,8 @@ fn seen_before(walk: &[u8; 65], high: usize) -> Option<usize>
     walk[..high].iter().position(|x| *x == walk[high])
 }
 
-// The first record that comes again on the walk from the place `top` down. There is one where top is 64, since 65 records
-// below 64 cannot all differ.
+// The first place, from 0 up to `top`, whose record comes at an earlier place too: between the two all records differ. There is one
+// where top is 64, since 65 records below 64 cannot all differ.
 pub fn find_repeat(walk: &[u8; 65], top: usize) -> Option<Span>
     requires { (top ≤ 64) × ((j : ℕ) → j ≤ top → slice_index walk.now j < 64) }
     ensures { MatchOption result (top < 64) (λ s. Repeat walk.now s.low s.high × (s.high ≤ top)) }
