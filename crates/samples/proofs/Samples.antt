@@ -6,7 +6,7 @@ use Rattle.model.specs.Sets.{put}
 use Rattle.model.proofs.Steps.{clash}
 use Rattle.sheet.specs.Calls.{put_state, put_mark}
 use Rattle.samples.specs.Results.{RatioIs, NoRings, CircleIs}
-use Rattle.samples.specs.Statements.{at, first_two, first_four, three_in_a_row, six_upward, PathGraded, Samples}
+use Rattle.samples.specs.Statements.{thresholds, first_two, first_four, three_in_a_row, six_upward, PathGraded, Samples}
 use Rattle.samples.specs.Statements.{nothing, alike, one_mark, both_ways, path, path_without, two_marks, upward, outer_mark}
 use Rattle.samples.proofs.Covers.{Covers, covers}
 use Rattle.samples.proofs.Rings.{ring_by_test, ring_at}
@@ -48,9 +48,9 @@ a_path = ratio_by_test (1 ∷ 2 ∷ 3 ∷ []) 4 covers_path refl
 its_gradings : PathGraded
 unfolding step different sum_to put_state put_mark
 its_gradings = record {
-  loose_declined = forbids_loosely path (at 1 2) first_four refl;
+  loose_declined = forbids_loosely path (thresholds 1 2) first_four refl;
   loose_given = loose_by_test (1 ∷ 2 ∷ 3 ∷ []) 4 covers_path refl;
-  strict_declined = forbids_strictly path (at 1 3) first_four refl;
+  strict_declined = forbids_strictly path (thresholds 1 3) first_four refl;
   strict_given = strict_by_test (1 ∷ 2 ∷ 3 ∷ []) 4 covers_path refl;
 }
 

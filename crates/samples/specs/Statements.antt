@@ -8,8 +8,8 @@ use Rattle.samples.specs.Folders.{folder, view}
 use Rattle.samples.specs.Results.{LooseGrades, StrictGrades, RatioIs, ReleaseIs, NoRings, CircleIs}
 
 -- the thresholds t1 and t2
-abbrev pub at : ℕ → ℕ → Thresholds
-at t1 t2 = record { t1 = t1; t2 = t2 }
+abbrev pub thresholds : ℕ → ℕ → Thresholds
+thresholds t1 t2 = record { t1 = t1; t2 = t2 }
 
 -- ---- the folders: records and marks, and what is thereby seen
 abbrev pub first_two : List ℕ
@@ -60,10 +60,10 @@ outer_mark_bytes = 3 ∷ 0 ∷ 1 ∷ 2 ∷ 1 ∷ 0 ∷ 0 ∷ 2 ∷ 3 ∷ 2 ∷ 0
 
 -- thresholds at which the path has no grading, and at which it has one
 pub record PathGraded : Type 0 where
-  pub loose_declined : ForbidsLoosely path (at 1 2) first_four
-  pub loose_given : LooseGrades path (at 1 3) (3 ∷ 2 ∷ 1 ∷ 0 ∷ [])
-  pub strict_declined : ForbidsStrictly path (at 1 3) first_four
-  pub strict_given : StrictGrades path (at 1 4) ((3, 3) ∷ (2, 2) ∷ (1, 1) ∷ (0, 0) ∷ [])
+  pub loose_declined : ForbidsLoosely path (thresholds 1 2) first_four
+  pub loose_given : LooseGrades path (thresholds 1 3) (3 ∷ 2 ∷ 1 ∷ 0 ∷ [])
+  pub strict_declined : ForbidsStrictly path (thresholds 1 3) first_four
+  pub strict_given : StrictGrades path (thresholds 1 4) ((3, 3) ∷ (2, 2) ∷ (1, 1) ∷ (0, 0) ∷ [])
 
 pub record Samples : Type 0 where
   pub no_records : RatioIs nothing 0 1 [] [] × ReleaseIs nothing 0 1 (0 ∷ 0 ∷ 0 ∷ 0 ∷ 0 ∷ [])
