@@ -13,7 +13,7 @@ use Rattle.grading.specs.Ratios.{grade_at, valueless, RatioOrCircle, RatioFound}
 use Rattle.archive.specs.declared.answer.Answer.{Answer}
 use Rattle.archive.specs.declared.answer.Answer.TheVariants.{Ratio as Ratio-answer}
 use Rattle.archive.specs.declared.answer.Graded.{Graded}
-use Rattle.archive.specs.Listed.{listed}
+use Rattle.archive.specs.Entries.{entries_below}
 use Rattle.archive.specs.Told.{Refused, plain, forced, RatioTold, circled, found}
 
 module _ (w : View) (before after : Memory Whole) (room : suffices before ≡ true) where
@@ -22,7 +22,7 @@ module _ (w : View) (before after : Memory Whole) (room : suffices before ≡ tr
   enough r o = subst (λ (b : Bool). MatchBool b (RatioOrCircle w before after r) (Declined 1 before after (valueless r))) room o
 
   pub ratio_told : (r : Ratio) (ring : Vec ℕ Global) (v : Vec (Graded Whole) Global) → RatioFound w before after (Ok r)
-      → vec_items ring ≡ take r.ring after.ring → vec_items v ≡ listed w (grade_at after.grades) 64
+      → vec_items ring ≡ take r.ring after.ring → vec_items v ≡ entries_below w (grade_at after.grades) 64
       → RatioTold w (Ratio-answer r.marks r.hops ring v)
   ratio_told r ring v o shown list =
       let given = enough (Ok r) o in

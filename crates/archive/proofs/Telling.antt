@@ -11,8 +11,8 @@ use Rattle.grading.specs.Outcomes.{Memory, suffices, Declined, Given, Shown, Sol
 use Rattle.archive.specs.declared.answer.Answer.{Answer}
 use Rattle.archive.specs.declared.answer.Answer.TheVariants.{Forced}
 use Rattle.archive.specs.declared.answer.Graded.{Graded}
-use Rattle.archive.specs.Listed.{listed}
-use Rattle.archive.specs.Told.{Refused, plain, forced, Told, outside, given}
+use Rattle.archive.specs.Entries.{entries_below}
+use Rattle.archive.specs.Told.{Refused, plain, forced, GradesTold, outside, given}
 use Rattle.archive.specs.Told as told
 
 -- the numbers 12 and 13 are those of Circle and Forbidden alone
@@ -50,23 +50,23 @@ module _ {V : Type 0} (w : View) (t : Thresholds) (asked : (ℕ → V) → Type 
   inside : (r : Result (Unit {0}) Decline) → Outcome w t asked none forbids before after r → MatchBool (within_limits t) (Solved w asked none forbids before after r) (Declined 11 before after r)
   inside r o = subst (λ (b : Bool). MatchBool b (MatchBool (within_limits t) (Solved w asked none forbids before after r) (Declined 11 before after r)) (Declined 1 before after r)) room o
 
-  pub told_given : (v : Vec (Graded V) Global) → Outcome w t asked none forbids before after (Ok tt) → vec_items v ≡ listed w (λ u. get_or after.grades u none) 64 → Told w t asked forbids give (give v)
+  pub told_given : (v : Vec (Graded V) Global) → Outcome w t asked none forbids before after (Ok tt) → vec_items v ≡ entries_below w (λ u. get_or after.grades u none) 64 → GradesTold w t asked forbids give (give v)
   told_given v o e = go (within_limits t) refl (inside (Ok tt) o)
     where
-      go : (b : Bool) → within_limits t ≡ b → MatchBool b (Given w asked none before after) (Declined 11 before after (Ok tt)) → Told w t asked forbids give (give v)
+      go : (b : Bool) → within_limits t ≡ b → MatchBool b (Given w asked none before after) (Declined 11 before after (Ok tt)) → GradesTold w t asked forbids give (give v)
       go true l s = given v (λ u. get_or after.grades u none) l s.grades e
       go false l s = absurd (omega (arith, s.answer))
 
-  told_refused : (d : Decline) (x : Answer) → Outcome w t asked none forbids before after (Err d) → Refused d (take (ring_length d) after.ring) x → Told w t asked forbids give x
+  told_refused : (d : Decline) (x : Answer) → Outcome w t asked none forbids before after (Err d) → Refused d (take (ring_length d) after.ring) x → GradesTold w t asked forbids give x
   told_refused d x o = go (within_limits t) refl (inside (Err d) o) x
     where
-      go : (b : Bool) → within_limits t ≡ b → MatchBool b ((number_of d ≡ 13) × Shown forbids (ring_length d) before after) (Declined 11 before after (Err d)) → (y : Answer) → Refused d (take (ring_length d) after.ring) y → Told w t asked forbids give y
+      go : (b : Bool) → within_limits t ≡ b → MatchBool b ((number_of d ≡ 13) × Shown forbids (ring_length d) before after) (Declined 11 before after (Err d)) → (y : Answer) → Refused d (take (ring_length d) after.ring) y → GradesTold w t asked forbids give y
       go true l s y (plain no-circle no-ring) = absurd (no-ring s.0)
       go true l s y (forced v is e long) = told.forced d v s.0 long l (subst forbids (sym e) s.1.ring)
       go false l s y (plain no-circle no-ring) = outside d s.answer l
       go false l s y (forced v (inl is) e long) = absurd (omega (arith, s.answer))
       go false l s y (forced v (inr is) e long) = absurd (omega (arith, s.answer))
 
-  pub told_made : {E : Type 0} (d : Decline) (r : Result Answer E) → Outcome w t asked none forbids before after (Err d) → IfOk r (Refused d (take (ring_length d) after.ring)) → IfOk r (Told w t asked forbids give)
+  pub told_made : {E : Type 0} (d : Decline) (r : Result Answer E) → Outcome w t asked none forbids before after (Err d) → IfOk r (Refused d (take (ring_length d) after.ring)) → IfOk r (GradesTold w t asked forbids give)
   told_made d (Ok x) o m = told_refused d x o m
   told_made d (Err e) o m = tt

@@ -1,4 +1,4 @@
-pub mod Listed
+pub mod Entries
 pub mod Told
 pub mod Accounts
 pub mod Right

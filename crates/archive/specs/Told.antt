@@ -13,7 +13,7 @@ use Rattle.paths.specs.Numbers.{BestLoose, ForbidsLoosely, BestStrict, ForbidsSt
 use Rattle.archive.specs.declared.answer.Answer.{Answer}
 use Rattle.archive.specs.declared.answer.Answer.TheVariants.{Declined, Forced, Wholes, Pairs, Units, Ratio}
 use Rattle.archive.specs.declared.answer.Graded.{Graded}
-use Rattle.archive.specs.Listed.{listed}
+use Rattle.archive.specs.Entries.{entries_below}
 
 -- a refusal as an answer: 12 and 13 come with their ring, and with its length
 pub data Refused (d : Decline) (ring : List ℕ) : Answer → Type 0 where
@@ -21,24 +21,24 @@ pub data Refused (d : Decline) (ring : List ℕ) : Answer → Type 0 where
   forced : (v : Vec ℕ Global) → (number_of d ≡ 12) ⊎ (number_of d ≡ 13) → vec_items v ≡ ring → ring_length d ≡ length (vec_items v) → Refused d ring (Forced d v)
 
 -- declined by 11 outside the limits; else by 13 with a ring that forbids, or the standing records with the grades asked for
-pub data Told {V : Type 0} (w : View) (t : Thresholds) (asked : (ℕ → V) → Type 0) (forbids : List ℕ → Type 0) (give : Vec (Graded V) Global → Answer) : Answer → Type 0 where
-  outside : (d : Decline) → number_of d ≡ 11 → within_limits t ≡ false → Told w t asked forbids give (Declined d)
+pub data GradesTold {V : Type 0} (w : View) (t : Thresholds) (asked : (ℕ → V) → Type 0) (forbids : List ℕ → Type 0) (give : Vec (Graded V) Global → Answer) : Answer → Type 0 where
+  outside : (d : Decline) → number_of d ≡ 11 → within_limits t ≡ false → GradesTold w t asked forbids give (Declined d)
   forced : (d : Decline) (v : Vec ℕ Global) → number_of d ≡ 13 → ring_length d ≡ length (vec_items v) → within_limits t ≡ true → forbids (vec_items v)
-      → Told w t asked forbids give (Forced d v)
-  given : (v : Vec (Graded V) Global) (g : ℕ → V) → within_limits t ≡ true → asked g → vec_items v ≡ listed w g 64 → Told w t asked forbids give (give v)
+      → GradesTold w t asked forbids give (Forced d v)
+  given : (v : Vec (Graded V) Global) (g : ℕ → V) → within_limits t ≡ true → asked g → vec_items v ≡ entries_below w g 64 → GradesTold w t asked forbids give (give v)
 
 abbrev pub LooseTold : View → Thresholds → Answer → Type 0
-LooseTold w t x = Told w t (λ g. BestLoose w t (λ u. (g u).value)) (ForbidsLoosely w t) Wholes x
+LooseTold w t x = GradesTold w t (λ g. BestLoose w t (λ u. (g u).value)) (ForbidsLoosely w t) Wholes x
 
 abbrev pub StrictTold : View → Thresholds → Answer → Type 0
-StrictTold w t x = Told w t (BestStrict w t) (ForbidsStrictly w t) Pairs x
+StrictTold w t x = GradesTold w t (BestStrict w t) (ForbidsStrictly w t) Pairs x
 
 abbrev pub UnitTold : View → Answer → Type 0
-UnitTold w x = Told w unit_thresholds (λ g. BestLoose w unit_thresholds (λ u. (g u).value)) (ForbidsLoosely w unit_thresholds) Units x
+UnitTold w x = GradesTold w unit_thresholds (λ g. BestLoose w unit_thresholds (λ u. (g u).value)) (ForbidsLoosely w unit_thresholds) Units x
 
 -- declined by 12 with a circle; else the least ratio with its ring, and the standing records with their grades at that ratio
 pub data RatioTold (w : View) : Answer → Type 0 where
   circled : (d : Decline) (v : Vec ℕ Global) → number_of d ≡ 12 → ring_length d ≡ length (vec_items v) → Circle w (vec_items v) → RatioTold w (Forced d v)
   found : (e h : ℕ) (ring : Vec ℕ Global) (v : Vec (Graded Whole) Global) (g : ℕ → Whole)
-      → LeastRatio w e h (vec_items ring) → BestLoose w (thresholds_at e h) (λ u. (g u).value) → vec_items v ≡ listed w g 64
+      → LeastRatio w e h (vec_items ring) → BestLoose w (thresholds_at e h) (λ u. (g u).value) → vec_items v ≡ entries_below w g 64
       → RatioTold w (Ratio e h ring v)

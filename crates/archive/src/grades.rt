@@ -6,7 +6,7 @@ ghost use Rattle.grading.specs.Outcomes.{brought, suffices};
 ghost use Rattle.archive.specs.declared.answer.Answer.{Answer};
 ghost use Rattle.archive.specs.declared.answer.Answer.TheVariants.{Wholes, Pairs, Units};
 ghost use Rattle.archive.specs.declared.answer.Graded.{Graded};
-ghost use Rattle.archive.specs.Told.{Told};
+ghost use Rattle.archive.specs.Told.{GradesTold};
 
 use crate::answer::{Answer, Graded};
 use crate::listing::list_grades;
@@ -67,7 +67,7 @@ fn answer_in<S: Sheet, V: Answering>(
     memory: &mut Memory<'_, V>,
 ) -> Result<Answer, AllocError>
     requires { suffices (brought memory.old) ≡ true }
-    ensures { IfOk result (Told (view_of S.Sheet sheet.now) (V.counted thresholds) (V.asked (view_of S.Sheet sheet.now) (V.counted thresholds))
+    ensures { IfOk result (GradesTold (view_of S.Sheet sheet.now) (V.counted thresholds) (V.asked (view_of S.Sheet sheet.now) (V.counted thresholds))
         (V.forbids (view_of S.Sheet sheet.now) (V.counted thresholds)) V.give) }
 {
     match graded(sheet, thresholds, memory) {
@@ -83,7 +83,7 @@ pub fn grades_answer<S: Sheet, V: Answering>(
     sheet: &S,
     thresholds: Thresholds,
 ) -> Result<Answer, AllocError>
-    ensures { IfOk result (Told (view_of S.Sheet sheet.now) (V.counted thresholds) (V.asked (view_of S.Sheet sheet.now) (V.counted thresholds))
+    ensures { IfOk result (GradesTold (view_of S.Sheet sheet.now) (V.counted thresholds) (V.asked (view_of S.Sheet sheet.now) (V.counted thresholds))
         (V.forbids (view_of S.Sheet sheet.now) (V.counted thresholds)) V.give) }
 {
     let mut grades = vec![in heap; V::nothing(); 64]?;

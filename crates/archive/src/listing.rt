@@ -1,7 +1,7 @@
 // The standing records of a sheet with their grades, rising.
 ghost use Rattle.std.specs.Prelude.{◌≡◌, ◌≤◌, length, IfOk, slice_index_or};
 ghost use Rattle.sheet.specs.Views.{view_of};
-ghost use Rattle.archive.specs.Listed.{listed};
+ghost use Rattle.archive.specs.Entries.{entries_below};
 
 use crate::answer::Graded;
 use scale::scale::Scale;
@@ -21,7 +21,7 @@ pub fn list_grades<S: Sheet, V: Scale>(
     grades: &[V],
 ) -> Result<Vec<Graded<V>>, AllocError>
     requires { 64 ≤ length grades.now }
-    ensures { IfOk result (λ v. v.items ≡ listed (view_of S.Sheet sheet.now) (λ u. slice_index_or grades.now u V.Scale.nothing) 64) }
+    ensures { IfOk result (λ v. v.items ≡ entries_below (view_of S.Sheet sheet.now) (λ u. slice_index_or grades.now u V.Scale.nothing) 64) }
 {
     let mut list = Vec::new(heap);
     for (u, grade) in grades[..64].iter().enumerate() {

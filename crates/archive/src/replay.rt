@@ -34,9 +34,9 @@ fn answer<S: Sheet>(heap: Global, folder: &mut Folder<S>, call: Call) -> Result<
     ensures { Answered (account_of S.Sheet folder.old) call (account_of S.Sheet folder.new) result }
 {
     match call {
-        Call::Enter(u) => Ok(folder.enter_here(u).into()),
-        Call::Mark(u, v) => Ok(folder.mark_here(u, v).into()),
-        Call::Strike(u, v) => Ok(folder.strike_here(u, v).into()),
+        Call::Enter(u) => Ok(folder.enter(u).into()),
+        Call::Mark(u, v) => Ok(folder.mark(u, v).into()),
+        Call::Strike(u, v) => Ok(folder.strike(u, v).into()),
         Call::SetAside(u) => Ok(folder.set_aside(u).into()),
         Call::BringBack(u) => Ok(folder.bring_back(u).into()),
         Call::Loose(thresholds) => grades_answer::<Folder<S>, Whole>(heap, folder, thresholds),

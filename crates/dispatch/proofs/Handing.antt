@@ -9,14 +9,14 @@ use Rattle.grading.specs.Outcomes.{Memory, suffices}
 use Rattle.form.proofs.Lengths.{release_long}
 use Rattle.reading.specs.declared.release.Release.{Release}
 use Rattle.reading.specs.Reads.{Reads}
-use Rattle.release.specs.Grades.{grade_at}
-use Rattle.release.specs.Writing.{put, short, release_of, Writes, found, circled, Refused, Released}
+use Rattle.release.specs.Grades.{grade_number}
+use Rattle.release.specs.Writing.{put, short, release_of, Writes, found, circled, MemoryRefused, Released}
 use Rattle.dispatch.specs.Dispatches.{ReleaseOf, CircleIn}
 
 module _ (w : View) (before after : Memory Whole) (out_before out_after : List ℕ) (room : suffices before ≡ true) where
   -- with enough memory: written, or a circle
   writes : (a : Result ℕ Decline) → Released w before after out_before out_after a → Writes w before after out_before out_after a
-  writes a o = subst (λ (b : Bool). MatchBool b (Writes w before after out_before out_after a) (Refused before after out_before out_after a)) room o
+  writes a o = subst (λ (b : Bool). MatchBool b (Writes w before after out_before out_after a) (MemoryRefused before after out_before out_after a)) room o
 
   -- the bytes at the front are the release
   pub handed : (n : ℕ) (release : Release) → Released w before after out_before out_after (Ok n) → Reads (take n out_after) (Ok release) → (n ≤ length out_after) × ReleaseOf w (take n out_after)
@@ -29,7 +29,7 @@ module _ (w : View) (before after : Memory Whole) (out_before out_after : List �
           e = r.marks;
           h = r.hops;
           ring = take r.ring after.ring;
-          g = grade_at after.grades;
+          g = grade_number after.grades;
           least = given.least;
           best = given.graded.best;
           bytes_are = ap (take n) after_is ∙ take_at (release_of w after r) (drop n out_before) n (sym is);
@@ -45,7 +45,7 @@ module _ (w : View) (before after : Memory Whole) (out_before out_after : List �
       go : Writes w before after out_before out_after (Err d) → CircleIn w d
       go (found r given (short b number less kept)) =
           let long = length-take-le r.ring after.ring (omega (arith, given.short, ring)) in
-          absurd (omega (arith, less, wide, release_long w (grade_at after.grades) (take r.ring after.ring) (omega (arith, long, given.short))))
+          absurd (omega (arith, less, wide, release_long w (grade_number after.grades) (take r.ring after.ring) (omega (arith, long, given.short))))
       go (circled b number shown kept) = record {
         number = number;
         ring = take (ring_length d) after.ring;

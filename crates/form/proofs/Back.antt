@@ -5,8 +5,8 @@ use Rattle.std.proofs.lemmas.List.{append_assoc}
 use Rattle.std.specs.List.{flat_map}
 use Rattle.form.specs.Got.{Got, got, stop, front, many}
 use Rattle.form.specs.Contents.{Contents, listed}
-use Rattle.form.specs.Reading.{two_bytes, number, number_from, pair_from, fits, not_before, above, later, any, pairs, words, records_part, marks_part, depths_part, ring_part, ended, contents, release}
-use Rattle.form.specs.Laid.{alone, of_pair, of_two, laid_out, Chain, Number, NumberFrom, Word, PairFrom, Valid}
+use Rattle.form.specs.Reading.{two_bytes, number, number_from, pair_from, fits, not_before, above, later, any, rising_pairs, words, records_part, marks_part, depths_part, ring_part, ended, contents, release}
+use Rattle.form.specs.Laid.{alone, of_pair, of_two, laid_out, Chain, RecordNumber, NumberFrom, Word, PairFrom, Valid}
 use Rattle.form.proofs.Steps.{many_more, many_none, then_is}
 
 -- If each good item is read back from its bytes, then so is a chain of them: by induction on the items.
@@ -23,7 +23,7 @@ module _ {S A : Type 0} (item : S → List ℕ → Got A) (next : S → A → S)
 low_and_high : (d : ℕ) → d % 256 + 256 * (d / 256) ≡ d
 low_and_high d = omega arith
 
-number_back : (s a : ℕ) (r : List ℕ) → Number s a → number (alone a ++ r) ≡ got a r
+number_back : (s a : ℕ) (r : List ℕ) → RecordNumber s a → number (alone a ++ r) ≡ got a r
 number_back s a r h = cond-true (leb a 63) (got a r) (stop 15) (le-leb a 63 h)
 
 number_from_back : (s a : ℕ) (r : List ℕ) → NumberFrom s a → number_from s (alone a ++ r) ≡ got a r
@@ -49,7 +49,7 @@ records_back rs r h = many_back number_from above alone NumberFrom number_from_b
 marks_back : (rs : List ℕ) (ms : List (ℕ × ℕ)) (r : List ℕ) → Chain (PairFrom rs) later (0, 0) ms
     → marks_part (listed rs) (of_two (length ms) ++ (flat_map of_pair ms ++ r)) ≡ got ms r
 marks_back rs ms r h =
-    ap (λ n. pairs (listed rs) n (flat_map of_pair ms ++ r)) (low_and_high (length ms))
+    ap (λ n. rising_pairs (listed rs) n (flat_map of_pair ms ++ r)) (low_and_high (length ms))
     ∙ many_back (pair_from (listed rs)) later of_pair (PairFrom rs) (pair_back rs) (0, 0) ms r h
 
 depths_back : (k : ℕ) (ds r : List ℕ) → length ds ≡ k → Chain Word any 0 ds → depths_part k (length ds ∷ (flat_map of_two ds ++ r)) ≡ got ds r
@@ -57,8 +57,8 @@ depths_back k ds r e h =
     cond-true (eqb (length ds) k) (words (length ds) (flat_map of_two ds ++ r)) (stop 15) (eq-eqb (length ds) k e)
     ∙ many_back {S = ℕ} (λ _. two_bytes) any of_two Word word_back 0 ds r h
 
-ring_back : (ks r : List ℕ) → Chain Number any 0 ks → ring_part (length ks ∷ (flat_map alone ks ++ r)) ≡ got ks r
-ring_back ks r h = many_back {S = ℕ} (λ _. number) any alone Number number_back 0 ks r h
+ring_back : (ks r : List ℕ) → Chain RecordNumber any 0 ks → ring_part (length ks ∷ (flat_map alone ks ++ r)) ≡ got ks r
+ring_back ks r h = many_back {S = ℕ} (λ _. number) any alone RecordNumber number_back 0 ks r h
 
 -- the whole from its sections
 pub whole : (bs rs r1 : List ℕ) (ms : List (ℕ × ℕ)) (r2 ds r3 ks r4 : List ℕ) → records_part bs ≡ got rs r1 → marks_part (listed rs) r1 ≡ got ms r2

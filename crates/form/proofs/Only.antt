@@ -5,8 +5,8 @@ use Rattle.std.proofs.lemmas.List.{append_assoc}
 use Rattle.std.specs.List.{flat_map}
 use Rattle.form.specs.Got.{Got, got, stop, then, front, many}
 use Rattle.form.specs.Contents.{Contents, listed}
-use Rattle.form.specs.Reading.{byte, two_bytes, number, number_from, pair_from, fits, not_before, above, later, any, rising, pairs, words, numbers, records_part, marks_part, depths_part, ring_part, ended, contents, release}
-use Rattle.form.specs.Laid.{alone, of_pair, of_two, laid_out, Chain, Number, NumberFrom, Word, PairFrom, Valid}
+use Rattle.form.specs.Reading.{byte, two_bytes, number, number_from, pair_from, fits, not_before, above, later, any, rising, rising_pairs, words, numbers, records_part, marks_part, depths_part, ring_part, ended, contents, release}
+use Rattle.form.specs.Laid.{alone, of_pair, of_two, laid_out, Chain, RecordNumber, NumberFrom, Word, PairFrom, Valid}
 use Rattle.form.specs.Statements.{Bytes}
 use Rattle.form.proofs.Steps.{then_got, front_got}
 
@@ -59,7 +59,7 @@ head_byte : (bs : List ℕ) (b : ℕ) (r : List ℕ) → bs ≡ b ∷ r → Byte
 head_byte bs b r e p = subst Bytes e p 0
 
 -- the items one by one
-number_only : (s : ℕ) (bs : List ℕ) (a : ℕ) (r : List ℕ) → Bytes bs → number bs ≡ got a r → (bs ≡ alone a ++ r) × Number s a × Bytes r
+number_only : (s : ℕ) (bs : List ℕ) (a : ℕ) (r : List ℕ) → Bytes bs → number bs ≡ got a r → (bs ≡ alone a ++ r) × RecordNumber s a × Bytes r
 number_only s bs a r p e =
     let t = then_got (byte bs) (λ b q. cond (leb b 63) (got b q) (stop 15)) a r e in
     let c = cond_got (leb t.value 63) (got t.value t.rest) a r 15 t.on in
@@ -133,7 +133,7 @@ records_only bs rs r p e =
 marks_only : (rs bs : List ℕ) (ms : List (ℕ × ℕ)) (r : List ℕ) → Bytes bs → marks_part (listed rs) bs ≡ got ms r
     → (bs ≡ of_two (length ms) ++ (flat_map of_pair ms ++ r)) × Chain (PairFrom rs) later (0, 0) ms × (length ms < 65536) × Bytes r
 marks_only rs bs ms r p e =
-    let t = then_got (two_bytes bs) (λ n q. pairs (listed rs) n q) ms r e in
+    let t = then_got (two_bytes bs) (λ n q. rising_pairs (listed rs) n q) ms r e in
     let y = word_only 0 bs t.value t.rest p t.was in
     let m = many_only (pair_from (listed rs)) later of_pair (PairFrom rs) (pair_only rs) t.value (0, 0) t.rest ms r y.2 t.on in
     let n : t.value ≡ length ms = sym m.long in
@@ -151,11 +151,11 @@ depths_only k bs ds r p e =
     (cc (y, m.laid, m.long), cc (m.long, q), m.chain, m.rest)
 
 ring_only : (bs ks r : List ℕ) → Bytes bs → ring_part bs ≡ got ks r
-    → (bs ≡ length ks ∷ (flat_map alone ks ++ r)) × Chain Number any 0 ks × (length ks < 256) × Bytes r
+    → (bs ≡ length ks ∷ (flat_map alone ks ++ r)) × Chain RecordNumber any 0 ks × (length ks < 256) × Bytes r
 ring_only bs ks r p e =
     let t = then_got (byte bs) (λ n q. numbers n q) ks r e in
     let y = byte_got bs t.value t.rest t.was in
-    let m = many_only {S = ℕ} (λ _. number) any alone Number number_only t.value 0 t.rest ks r (tail_bytes bs t.value t.rest y p) t.on in
+    let m = many_only {S = ℕ} (λ _. number) any alone RecordNumber number_only t.value 0 t.rest ks r (tail_bytes bs t.value t.rest y p) t.on in
     let h = head_byte bs t.value t.rest y p in
     let l = m.long in
     (cc (y, m.laid, m.long), m.chain, omega arith, m.rest)

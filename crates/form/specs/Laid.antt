@@ -27,8 +27,8 @@ abbrev pub Chain : {S A : Type 0} → (S → A → Type 0) → (S → A → S) �
 Chain Good next s [] = Unit {0}
 Chain Good next s (a ∷ xs) = Good s a × Chain Good next (next s a) xs
 
-abbrev pub Number : ℕ → ℕ → Type 0
-Number _ b = b ≤ 63
+abbrev pub RecordNumber : ℕ → ℕ → Type 0
+RecordNumber _ b = b ≤ 63
 
 abbrev pub NumberFrom : ℕ → ℕ → Type 0
 NumberFrom low b = (low ≤ b) × (b ≤ 63)
@@ -54,5 +54,5 @@ pub record Valid (c : Contents) : Type 0 where
   pub mark_count : length c.marks < 65536
   pub depth_count : length c.depths ≡ length c.records
   pub depths : Chain Word any 0 c.depths
-  pub ring : Chain Number any 0 c.ring
+  pub ring : Chain RecordNumber any 0 c.ring
   pub ring_count : length c.ring < 256

@@ -47,8 +47,8 @@ any s _ = s
 abbrev pub rising : ℕ → List ℕ → Got (List ℕ)
 rising n bs = many number_from above n 0 bs
 
-abbrev pub pairs : (ℕ → Bool) → ℕ → List ℕ → Got (List (ℕ × ℕ))
-pairs is n bs = many (pair_from is) later n (0, 0) bs
+abbrev pub rising_pairs : (ℕ → Bool) → ℕ → List ℕ → Got (List (ℕ × ℕ))
+rising_pairs is n bs = many (pair_from is) later n (0, 0) bs
 
 abbrev pub words : ℕ → List ℕ → Got (List ℕ)
 words n bs = many {S = ℕ} (λ _. two_bytes) any n 0 bs
@@ -61,7 +61,7 @@ abbrev pub records_part : List ℕ → Got (List ℕ)
 records_part bs = then (byte bs) (λ n r. rising n r)
 
 abbrev pub marks_part : (ℕ → Bool) → List ℕ → Got (List (ℕ × ℕ))
-marks_part is bs = then (two_bytes bs) (λ n r. pairs is n r)
+marks_part is bs = then (two_bytes bs) (λ n r. rising_pairs is n r)
 
 abbrev pub depths_part : ℕ → List ℕ → Got (List ℕ)
 depths_part k bs = then (byte bs) (λ n r. cond (n == k) (words n r) (stop 15))

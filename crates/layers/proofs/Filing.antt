@@ -1,9 +1,10 @@
 -- The calls of a folder over a sheet, by those below. Assumes nothing.
-use Rattle.std.proofs.Common.{◌≡◌, ℕ, ◌+◌, ◌-◌, Bool, true, false, cond, ◌&&◌, eqb, ltb, Result, sym, refl, ap, ◌∙◌, subst, arith}
+use Rattle.std.proofs.Common.{◌≡◌, ℕ, ◌+◌, ◌-◌, Bool, true, false, cond, ◌&&◌, eqb, ltb, IsErrAnd, Result, sym, refl, ap, ◌∙◌, subst, arith}
 use mathlib.Core.Path.{fun_ext}
 use Rattle.std.proofs.Math.Bool.{and-true}
 use Rattle.std.proofs.lemmas.Bool.{and_parts, eqb-true, ne_eqb}
 use Rattle.model.specs.declared.decline.Decline.{Decline}
+use Rattle.model.specs.Refusals.{number_of}
 use Rattle.model.specs.Sets.{has, put}
 use Rattle.sheet.specs.declared.state.State.{State}
 use Rattle.sheet.specs.declared.state.State.TheVariants.{Absent, Standing, Aside}
@@ -11,7 +12,7 @@ use Rattle.sheet.specs.States.{is_aside, is_standing}
 use Rattle.sheet.specs.Meanings.{Meaning, Lawful}
 use Rattle.sheet.specs.Checks.{enter_check, pair_check, mark_check, strike_check}
 use Rattle.sheet.specs.Calls.{put_state, put_mark, entered, marked, struck, Called}
-use Rattle.sheet.proofs.Checking.{Clear, called_by, pair_clear, pair_open}
+use Rattle.sheet.proofs.Checking.{Clear, called_by, pair_clear, pair_open, pair_left}
 use Rattle.layers.specs.Folders.{Account, filed_state, filed_states, filed_marks, seen, entered_in, marked_in, struck_in}
 
 stands_there : (own : Bool) (s : State) → filed_state own s ≡ Standing → s ≡ Standing
@@ -61,6 +62,14 @@ pub strike_seen : (f : Account) (u v : ℕ) → strike_check (seen f) u v ≡ 0 
 strike_seen f u v e =
     let c = pair_clear u v (filed_states f u) (filed_states f v) _ e in
     λ i. record { states = filed_states f; marks = put_seen f u v false c.left c.right i; held = f.below.held - 1; capacity = f.below.capacity }
+
+-- a pair that fails a check of the folder, whose error is handed on by `?`: the account is left as it was
+pub pair_failed : {before changed after : Account} {r : Result (Unit {0}) Decline} (u v k : ℕ) (d : Decline) → IsErrAnd r (λ e. e ≡ d) → after ≡ before
+    → number_of d ≡ pair_check u v (filed_states before u) (filed_states before v) 0
+    → Called (pair_check u v (filed_states before u) (filed_states before v) k) before changed after r
+pair_failed {before = before} {changed = changed} {r = r} u v k d handed kept failed =
+    subst (λ (a : Account). Called (pair_check u v (filed_states before u) (filed_states before v) k) before changed a r) (sym kept)
+    (pair_left u v (filed_states before u) (filed_states before v) k r d handed failed)
 
 -- a pair that passes the folder's checks is answered below as it is in the folder
 pub pair_seen : (f : Account) (u v : ℕ) (k : Bool → ℕ) → Clear u v (filed_states f u) (filed_states f v)

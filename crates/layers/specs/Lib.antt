@@ -2,5 +2,5 @@ pub mod Turns
 pub mod Folders
 pub mod FolderCalls
 pub mod Statements
-pub mod Turning
+pub mod TurnLaws
 pub mod FolderLaws

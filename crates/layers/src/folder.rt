@@ -47,37 +47,6 @@ impl<S: Sheet> Folder<S> {
         check_pair(u, v, self.state_here(u), self.state_here(v))
     }
 
-    // Enter, mark and strike, by what they make of the folder's account: the sheet below and the set.
-    pub fn enter_here(&mut self, u: u8) -> Result<(), Decline>
-        ensures { EntersIn S.Sheet u self.old self.new result }
-    {
-        if u > 63 {
-            return Err(Decline::NumberTooHigh);
-        }
-        match self.state_here(u) {
-            State::Standing => Err(Decline::AlreadyStands),
-            State::Aside => Err(Decline::RecordAside),
-            State::Absent => {
-                self.aside = without_bit(self.aside, u as usize);
-                self.below.enter(u)
-            }
-        }
-    }
-
-    pub fn mark_here(&mut self, u: u8, v: u8) -> Result<(), Decline>
-        ensures { MarksIn S.Sheet u v self.old self.new result }
-    {
-        self.check_here(u, v)?;
-        self.below.mark(u, v)
-    }
-
-    pub fn strike_here(&mut self, u: u8, v: u8) -> Result<(), Decline>
-        ensures { StrikesIn S.Sheet u v self.old self.new result }
-    {
-        self.check_here(u, v)?;
-        self.below.strike(u, v)
-    }
-
     pub fn set_aside(&mut self, u: u8) -> Result<(), Decline>
         ensures account { SetsAside S.Sheet u self.old self.new result }
         ensures below { self.new.below ≡ self.old.below }
@@ -143,21 +112,34 @@ impl<S: Sheet> Sheet for Folder<S> {
         self.below.capacity()
     }
 
+    // Entering, marking and striking tell what becomes of the folder's account, the sheet below and the set, and so of what is out of sight too.
     fn enter(&mut self, u: u8) -> Result<(), Decline>
         ensures account { EntersIn S.Sheet u self.old self.new result }
     {
-        self.enter_here(u)
+        if u > 63 {
+            return Err(Decline::NumberTooHigh);
+        }
+        match self.state_here(u) {
+            State::Standing => Err(Decline::AlreadyStands),
+            State::Aside => Err(Decline::RecordAside),
+            State::Absent => {
+                self.aside = without_bit(self.aside, u as usize);
+                self.below.enter(u)
+            }
+        }
     }
 
     fn mark(&mut self, u: u8, v: u8) -> Result<(), Decline>
         ensures account { MarksIn S.Sheet u v self.old self.new result }
     {
-        self.mark_here(u, v)
+        self.check_here(u, v)?;
+        self.below.mark(u, v)
     }
 
     fn strike(&mut self, u: u8, v: u8) -> Result<(), Decline>
         ensures account { StrikesIn S.Sheet u v self.old self.new result }
     {
-        self.strike_here(u, v)
+        self.check_here(u, v)?;
+        self.below.strike(u, v)
     }
 }

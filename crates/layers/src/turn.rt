@@ -1,7 +1,7 @@
 // The turn: the sheet below read the other way round, for a judge who marks the weaker.
 ghost use Rattle.std.specs.Prelude.{◌≡◌};
 ghost use Rattle.layers.specs.Turns.{turned};
-ghost use Rattle.layers.specs.Turning.{turned_lawful};
+ghost use Rattle.layers.specs.TurnLaws.{turned_lawful};
 
 use model::decline::Decline;
 use sheet::meaning::Sheet;

@@ -12,7 +12,7 @@ use Rattle.sheet.specs.Calls.{put_mark}
 use Rattle.sheet.proofs.Keeping.{bare_empty}
 use Rattle.listsheet.specs.Listed.{more_marks, listed, listed_true, listed_false}
 use Rattle.listsheet.specs.declared.marks.Mark.{Mark}
-use Rattle.listsheet.specs.Places.{pair_of, place, is_pair, times, list_marks, Once, list_meaning}
+use Rattle.listsheet.specs.Places.{mark_of, place, is_pair, times, list_marks, Once, list_meaning}
 
 pub none_empty : {present : ℕ} {items : List Mark} → present ≡ 0 → items ≡ [] → list_meaning present items ≡ empty 512
 none_empty none e = bare_empty 512 none (ap list_marks e) (ap (length {A = Mark}) e)
@@ -25,29 +25,29 @@ is_pair_same k u v e x y =
 times_push : (items : List Mark) (k : Mark) (u v : ℕ) → times (items ++ k ∷ []) u v ≡ times items u v + cond (is_pair k u v) 1 0
 times_push items k u v = sum_by_push (λ (m : Mark). cond (is_pair m u v) 1 0) items k
 
-pub marks_pushed : (items : List Mark) (u v : ℕ) → list_marks (items ++ pair_of u v ∷ []) ≡ put_mark (list_marks items) u v true
+pub marks_pushed : (items : List Mark) (u v : ℕ) → list_marks (items ++ mark_of u v ∷ []) ≡ put_mark (list_marks items) u v true
 unfolding put_mark
 marks_pushed items u v = fun_ext (λ x. fun_ext (λ y.
-    listed (items ++ pair_of u v ∷ []) x y ∙ ap (ltb 0) (times_push items (pair_of u v) x y ∙ omega arith)
-    ∙ more_marks (is_pair (pair_of u v) x y) (times items x y) ∙ ap (cond (is_pair (pair_of u v) x y) true) (sym (listed items x y))))
+    listed (items ++ mark_of u v ∷ []) x y ∙ ap (ltb 0) (times_push items (mark_of u v) x y ∙ omega arith)
+    ∙ more_marks (is_pair (mark_of u v) x y) (times items x y) ∙ ap (cond (is_pair (mark_of u v) x y) true) (sym (listed items x y))))
 
 -- what was not in the list is in it once then
-pub once_pushed : (items : List Mark) (u v : ℕ) → list_marks items u v ≡ false → Once items → Once (items ++ pair_of u v ∷ [])
+pub once_pushed : (items : List Mark) (u v : ℕ) → list_marks items u v ≡ false → Once items → Once (items ++ mark_of u v ∷ [])
 once_pushed items u v bare once x y = go (x == u && y == v) refl
   where
-    go : (t : Bool) → (x == u && y == v) ≡ t → times (items ++ pair_of u v ∷ []) x y ≤ 1
+    go : (t : Bool) → (x == u && y == v) ≡ t → times (items ++ mark_of u v ∷ []) x y ≤ 1
     go true e =
         let p = and_parts (x == u) (y == v) e in
         let none : times items x y ≡ 0 = ap₂ (times items) (eqb-true x u p.0) (eqb-true y v p.1) ∙ omega (arith, ltb-false 0 (times items u v) (sym (listed items u v) ∙ bare)) in
-        omega (arith, times_push items (pair_of u v) x y, ap (λ (t : Bool). cond {A = ℕ} t 1 0) e)
-    go false e = omega (arith, times_push items (pair_of u v) x y, ap (λ (t : Bool). cond {A = ℕ} t 1 0) e, once x y)
+        omega (arith, times_push items (mark_of u v) x y, ap (λ (t : Bool). cond {A = ℕ} t 1 0) e)
+    go false e = omega (arith, times_push items (mark_of u v) x y, ap (λ (t : Bool). cond {A = ℕ} t 1 0) e, once x y)
 
 -- the pair at a place taken away
 module _ (items : List Mark) (k : ℕ) (there : k < length items) where
   times_removed : (x y : ℕ) → times (swap_remove items k (place items k)) x y + cond (is_pair (place items k) x y) 1 0 ≡ times items x y
   times_removed x y =
       let f = λ (m : Mark). cond {A = ℕ} (is_pair m x y) 1 0 in
-      ap (λ (m : Mark). times (swap_remove items k (place items k)) x y + f m) (sym (get_or_default items k (place items k) (pair_of 0 0) there))
+      ap (λ (m : Mark). times (swap_remove items k (place items k)) x y + f m) (sym (get_or_default items k (place items k) (mark_of 0 0) there))
       ∙ sum_by-swap_remove f items k (place items k) there
 
   pub once_removed : Once items → Once (swap_remove items k (place items k))
@@ -84,8 +84,8 @@ none_before p (k ∷ items) h = sum_by-cons (λ (m : Mark). cond (p m) 1 0) k it
 pub found_there : (items : List Mark) (u v k : ℕ) → position (λ m. is_pair m u v) items ≡ Some k
     → (k < length items) × (is_pair (place items k) u v ≡ true) × (list_marks items u v ≡ true)
 found_there items u v k e =
-    let p = position-Some (λ m. is_pair m u v) items k (pair_of 0 0) e in
-    let some = get_or-le-sum_by (λ (m : Mark). cond {A = ℕ} (is_pair m u v) 1 0) items k (pair_of 0 0) p.0 in
+    let p = position-Some (λ m. is_pair m u v) items k (mark_of 0 0) e in
+    let some = get_or-le-sum_by (λ (m : Mark). cond {A = ℕ} (is_pair m u v) 1 0) items k (mark_of 0 0) p.0 in
     (p.0, p.1, listed_true items u v (omega (arith, some, ap (λ (t : Bool). cond {A = ℕ} t 1 0) p.1)))
 
 pub found_nowhere : (items : List Mark) (u v : ℕ) → position (λ m. is_pair m u v) items ≡ None → list_marks items u v ≡ false

@@ -10,7 +10,7 @@ use Rattle.model.proofs.Digits.{has_bound}
 use Rattle.sheet.specs.Meanings.{pairs}
 use Rattle.sheet.specs.Calls.{put_mark}
 use Rattle.sheet.specs.Kept.{PresentFrom, PresentTo}
-use Rattle.sheet.specs.Counts.{pairs_put, pairs_none}
+use Rattle.sheet.proofs.Changes.{pairs_put, pairs_none}
 use Rattle.listsheet.specs.declared.marks.Mark.{Mark}
 use Rattle.listsheet.specs.Places.{is_pair, times, list_marks, Once}
 

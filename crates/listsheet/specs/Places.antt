@@ -6,12 +6,12 @@ use Rattle.sheet.specs.Kept.{kept_meaning}
 use Rattle.listsheet.specs.declared.marks.Mark.{Mark}
 
 -- the mark from u to v
-abbrev pub pair_of : ℕ → ℕ → Mark
-pair_of u v = record { from = u; to = v }
+abbrev pub mark_of : ℕ → ℕ → Mark
+mark_of u v = record { from = u; to = v }
 
 -- the mark in place i
 abbrev pub place : List Mark → ℕ → Mark
-place items i = slice_index_or items i (pair_of 0 0)
+place items i = slice_index_or items i (mark_of 0 0)
 
 abbrev pub is_pair : Mark → ℕ → ℕ → Bool
 is_pair k u v = u == k.from && v == k.to

@@ -1,7 +1,7 @@
 // The marks of a list sheet in a list alone, with nothing promised of them.
 ghost use Rattle.std.specs.Prelude.{◌≡◌, ◌+◌, ◌<◌, [], ◌∷◌, ◌++◌, length, ◌==◌};
 ghost use Rattle.std.specs.List.{position, swap_remove};
-ghost use Rattle.listsheet.specs.Places.{place, pair_of, is_pair, list_marks};
+ghost use Rattle.listsheet.specs.Places.{place, mark_of, is_pair, list_marks};
 
 use arrayvec::ArrayVec;
 
@@ -67,7 +67,7 @@ impl MarkList {
     // Adds the mark from u to v after the others.
     pub(crate) fn push(&mut self, u: u8, v: u8)
         requires { length self.old.marks.items < 512 }
-        ensures items { self.new.marks.items ≡ self.old.marks.items ++ pair_of u v ∷ [] }
+        ensures items { self.new.marks.items ≡ self.old.marks.items ++ mark_of u v ∷ [] }
         ensures len { length self.new.marks.items ≡ length self.old.marks.items + 1 }
     {
         self.marks.push(Mark { from: u, to: v });

@@ -16,11 +16,11 @@ Loose w t d g = Graded 0 w t.t1 t.t2 d g
 abbrev pub Strict : View → Thresholds → ℕ → (ℕ → ℤ) → Type 0
 Strict w t d g = Graded 1 w t.t1 t.t2 d g
 
--- the ring xs forbids a loose grading: e·t1 > h·t2
+-- of any list xs, with e marks and h hops on its way round: e·t1 > h·t2. Where xs is a ring, it forbids a loose grading (`RingForbidsLoose`)
 abbrev pub ForbidsLoose : View → Thresholds → List ℕ → Type 0
 ForbidsLoose w t xs = hops_of w xs * t.t2 < marks_of w xs * t.t1
 
--- it forbids a strict one: e ≥ 1 and e·t1 ≥ h·t2
+-- e ≥ 1 and e·t1 ≥ h·t2. Where xs is a ring, it forbids a strict grading (`RingForbidsStrict`)
 abbrev pub ForbidsStrict : View → Thresholds → List ℕ → Type 0
 ForbidsStrict w t xs = (1 ≤ marks_of w xs) × (hops_of w xs * t.t2 ≤ marks_of w xs * t.t1)
 

@@ -35,11 +35,12 @@ FewerRings = (a b : View) (xs : List ℕ) → Within a b → Ring a xs → SameR
 abbrev pub FewerCircles : Type 0
 FewerCircles = (a b : View) (xs : List ℕ) → Within a b → Circle a xs → Circle b xs
 
--- a ring that has the ratio, and a loose grading at it
+-- what shows a ratio (a ring that has it, or none for 0 to 1), and a loose grading at that ratio, show that it is the least
 abbrev pub GradingShowsLeast : Type 0
 GradingShowsLeast = (w : View) (e h d : ℕ) (xs : List ℕ) (g : ℕ → ℤ) → 1 ≤ h → Shows w e h xs → 1 ≤ d → Loose w (thresholds_at e h) d g → LeastRatio w e h xs
 
--- t1 times a loose grading at the ratio e to h is one for thresholds with t2/t1 at least e/h, to h times the denominator
+-- t1 times a loose grading at the ratio e to h is one for thresholds with t2/t1 at least e/h, to h times its denominator d.
+-- Nothing is asked of h and d: where both are at least 1, d·h is a denominator
 abbrev pub GradingAbove : Type 0
 GradingAbove = (w : View) (e h d : ℕ) (g : ℕ → ℤ) (t : Thresholds) → Loose w (thresholds_at e h) d g → e * t.t1 ≤ t.t2 * h → Loose w t (d * h) (λ u. pos t.t1 *ℤ g u)
 

@@ -31,12 +31,12 @@ pub fn fewer_records_fewer_circles()
     ensures { FewerCircles }
 {}
 
-// A ring that has a ratio and a loose grading at that ratio are enough: it is the least ratio.
+// What shows a ratio (a ring that has it, or none for 0 to 1) and a loose grading at that ratio are enough: it is the least ratio.
 pub fn grading_shows_least_ratio()
     ensures { GradingShowsLeast }
 {}
 
-// A loose grading at a ratio gives one, to some denominator, for all thresholds whose t2/t1 is no less.
+// A loose grading at a ratio e/h, to a denominator d, gives one to d·h for all thresholds whose t2/t1 is no less.
 pub fn grading_at_a_ratio_and_above()
     ensures { GradingAbove }
 {}

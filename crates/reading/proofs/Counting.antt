@@ -7,7 +7,7 @@ use Rattle.model.specs.Rings.{bit, round, marks_in, hops_in}
 use Rattle.model.proofs.Sums.{sum_none, sum_more}
 use Rattle.model.proofs.Rounds.{round_low}
 use Rattle.reading.specs.declared.ring.Tally.{Tally}
-use Rattle.reading.specs.Tests.{AllSteps, Counted}
+use Rattle.reading.specs.Tests.{AllSteps, StepsCounted}
 
 -- so far: the first n steps
 pub record CountedTo (w : View) (xs : List ℕ) (n : ℕ) (t : Tally) : Type 0 where
@@ -53,5 +53,5 @@ no_step w xs i l e all =
     let is = ap (λ (o : Option Step). marks o || hops o) found ∙ all i l in
     cc
 
-pub counted_all : (w : View) (xs : List ℕ) (t : Tally) → CountedTo w xs (length xs) t → Counted w xs t
+pub counted_all : (w : View) (xs : List ℕ) (t : Tally) → CountedTo w xs (length xs) t → StepsCounted w xs t
 counted_all w xs t c = record { steps = c.steps; marks = sym c.marks; hops = sym c.hops }

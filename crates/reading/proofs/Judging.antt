@@ -8,7 +8,7 @@ use Rattle.reading.specs.declared.claim.Claim.{Claim}
 use Rattle.reading.specs.declared.ring.Tally.{Tally}
 use Rattle.reading.specs.Told.{Holds}
 use Rattle.reading.specs.Claims.{claimed, claimed_view, grade_of}
-use Rattle.reading.specs.Tests.{AllMeet, Ratio}
+use Rattle.reading.specs.Tests.{AllMeet, RatioShown}
 use Rattle.std.specs.Prelude.{ℤ}
 
 -- a loose grading to the denominator 1 is one that meets every step
@@ -28,10 +28,10 @@ one_ratio w xs e h f k (inr a) (inr b) = (sym a.marks ∙ b.marks, sym a.hops �
 -- Where the ring shows no ratio, nothing holds. Where it shows one, it shows no other, so what is claimed holds with that one or with none:
 -- the grades decide.
 module _ (claim : Claim) where
-  pub unshown : ((e h : ℕ) → Ratio (claimed_view claim) claim.ring.items e h → ⊥) → (e h : ℕ) → Holds (claimed claim e h) → ⊥
+  pub unshown : ((e h : ℕ) → RatioShown (claimed_view claim) claim.ring.items e h → ⊥) → (e h : ℕ) → Holds (claimed claim e h) → ⊥
   unshown none e h holds = none e h (record { shown = holds.shown; hopped = holds.hopped })
 
-  pub ungraded : (t : Tally) → Ratio (claimed_view claim) claim.ring.items t.marks t.hops
+  pub ungraded : (t : Tally) → RatioShown (claimed_view claim) claim.ring.items t.marks t.hops
       → (AllMeet (claimed_view claim) (grade_of claim.depths) (thresholds_at t.marks t.hops) → ⊥) → (e h : ℕ) → Holds (claimed claim e h) → ⊥
   ungraded t ratio none e h holds =
       let w = claimed_view claim in
@@ -40,6 +40,6 @@ module _ (claim : Claim) where
       none (meets w g (thresholds_at t.marks t.hops)
       (subst (λ (k : ℕ). Loose w (thresholds_at t.marks k) 1 g) same.1 (subst (λ (f : ℕ). Loose w (thresholds_at f h) 1 g) same.0 holds.graded)))
 
-  pub held : (t : Tally) → Ratio (claimed_view claim) claim.ring.items t.marks t.hops
+  pub held : (t : Tally) → RatioShown (claimed_view claim) claim.ring.items t.marks t.hops
       → AllMeet (claimed_view claim) (grade_of claim.depths) (thresholds_at t.marks t.hops) → Holds (claimed claim t.marks t.hops)
   held t ratio all = record { hopped = ratio.hopped; shown = ratio.shown; graded = loose (claimed_view claim) (grade_of claim.depths) (thresholds_at t.marks t.hops) all }

@@ -8,7 +8,7 @@ use Rattle.model.proofs.Digits.{has_bound}
 use Rattle.reading.specs.declared.claim.Claim.{Claim}
 use Rattle.reading.specs.declared.ring.Tally.{Tally}
 use Rattle.reading.specs.Claims.{claimed_view}
-use Rattle.reading.specs.Tests.{Different, FirstSmallest, AllSteps, Counted, BothOn}
+use Rattle.reading.specs.Tests.{Different, FirstSmallest, AllSteps, StepsCounted, BothOn}
 
 module _ (claim : Claim) (xs : List ℕ) where
   -- Numbers that stand nowhere have no step, so steps all round show that they stand.
@@ -28,7 +28,7 @@ module _ (claim : Claim) (xs : List ℕ) where
         first = first;
       }
 
-  pub both_on : (t : Tally) → 2 ≤ length xs → Different xs → FirstSmallest xs → Counted (claimed_view claim) xs t
+  pub both_on : (t : Tally) → 2 ≤ length xs → Different xs → FirstSmallest xs → StepsCounted (claimed_view claim) xs t
       → (ltb 0 t.marks && ltb 0 t.hops) ≡ true → BothOn (claimed_view claim) xs t.marks t.hops
   both_on t long different first c both =
       let some = and_parts (ltb 0 t.marks) (ltb 0 t.hops) both in

@@ -13,7 +13,7 @@ use Rattle.form.proofs.Back.{whole}
 use Rattle.form.proofs.Lookups.{listed_below, beside_below}
 use Rattle.reading.specs.declared.claim.Claim.{Claim}
 use Rattle.reading.specs.Told.{told_by}
-use Rattle.reading.specs.Claims.{row_marks, grade_of, claimed, of_set, IsSet, AreRows, ArePlaces, IsRing, Stands}
+use Rattle.reading.specs.Claims.{row_marks, grade_of, claimed, of_set, IsSet, AreRows, ArePlaces, IsRing, StandsFor}
 use Rattle.reading.proofs.Places.{depth_abs}
 
 -- no bit above 63
@@ -42,7 +42,7 @@ beside_place rs ds depths set is places u =
 
 -- the claim of what the sections gave stands for their contents
 pub stands : (rs : List ℕ) (ms : List (ℕ × ℕ)) (ds ks : List ℕ) (claim : Claim)
-    → IsSet rs claim.records → AreRows claim.records ms claim.marks → ArePlaces claim.records ds claim.depths → IsRing ks claim.ring → Stands (contents rs ms ds ks) claim
+    → IsSet rs claim.records → AreRows claim.records ms claim.marks → ArePlaces claim.records ds claim.depths → IsRing ks claim.ring → StandsFor (contents rs ms ds ks) claim
 stands rs ms ds ks claim is rows places ring = record { tells = tells; drawn = rows.drawn }
   where
     records : has claim.records ≡ listed rs

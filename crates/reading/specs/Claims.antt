@@ -45,6 +45,6 @@ abbrev pub IsRing : List ℕ → ArrayVec ℕ → Type 0
 IsRing ks ring = ks ≡ ring.items
 
 -- the claim stands for the contents
-pub record Stands (c : Contents) (claim : Claim) : Type 0 where
+pub record StandsFor (c : Contents) (claim : Claim) : Type 0 where
   pub tells : (e h : ℕ) → claimed claim e h ≡ told_by c e h
   pub drawn : Drawn (claimed_view claim)

@@ -10,23 +10,23 @@ use Rattle.reading.specs.Told.{Told, Holds, told_by}
 use Rattle.reading.specs.Claims.{claimed}
 
 -- what a release tells
-abbrev pub told : Release → Told
-told r = claimed r.claim r.tally.marks r.tally.hops
+abbrev pub told_in : Release → Told
+told_in r = claimed r.claim r.tally.marks r.tally.hops
 
 -- a release that tells just this, with its own marks and hops, and holds; or declined by 16, where it holds for no e and h
-abbrev pub Judged : (ℕ → ℕ → Told) → Result Release Decline → Type 0
-Judged what (Ok r) = (told r ≡ what (told r).marks (told r).hops) × Holds (told r)
-Judged what (Err d) = (number_of d ≡ 16) × ((e h : ℕ) → Holds (what e h) → ⊥)
+abbrev pub HoldsOrNot : (ℕ → ℕ → Told) → Result Release Decline → Type 0
+HoldsOrNot what (Ok r) = (told_in r ≡ what (told_in r).marks (told_in r).hops) × Holds (told_in r)
+HoldsOrNot what (Err d) = (number_of d ≡ 16) × ((e h : ℕ) → Holds (what e h) → ⊥)
 
 -- declined by a number
 abbrev pub DeclinedBy : ℕ → Result Release Decline → Type 0
 DeclinedBy n (Ok r) = ⊥
 DeclinedBy n (Err d) = number_of d ≡ n
 
--- the first broken rule of the form decides; where none is broken, what the contents tell is judged
-abbrev pub Answered : Got Contents → Result Release Decline → Type 0
-Answered (got c rest) a = Judged (told_by c) a
-Answered (stop n) a = DeclinedBy n a
+-- the first broken rule of the form decides; where none is broken, whether what the contents tell holds
+abbrev pub FormFirst : Got Contents → Result Release Decline → Type 0
+FormFirst (got c rest) a = HoldsOrNot (told_by c) a
+FormFirst (stop n) a = DeclinedBy n a
 
 abbrev pub Reads : List ℕ → Result Release Decline → Type 0
-Reads bs a = Answered (release bs) a
+Reads bs a = FormFirst (release bs) a

@@ -7,8 +7,8 @@ use Rattle.model.specs.Ratios.{RingWith, Shows}
 use Rattle.reading.specs.declared.ring.Tally.{Tally}
 
 -- the test says whether P holds
-abbrev pub Tells : Bool → Type 0 → Type 0
-Tells b P = MatchBool b P (P → ⊥)
+abbrev pub Decides : Bool → Type 0 → Type 0
+Decides b P = MatchBool b P (P → ⊥)
 
 -- what was found are numbers e and h with P, or there are none
 abbrev pub Finds : Option Tally → (ℕ → ℕ → Type 0) → Type 0
@@ -16,13 +16,13 @@ Finds None P = (e h : ℕ) → P e h → ⊥
 Finds (Some t) P = P t.marks t.hops
 
 -- the grades of u and v meet the step from u to v
-pub record Meets (w : View) (g : ℕ → ℤ) (t : Thresholds) (u v : ℕ) : Type 0 where
+pub record MeetsStep (w : View) (g : ℕ → ℤ) (t : Thresholds) (u v : ℕ) : Type 0 where
   pub up : is_mark w u v ≡ true → (g u +ℤ pos (1 * t.t1 + 0)) ≤ℤ g v
   pub near : is_hop w u v ≡ true → (g u ≤ℤ (g v +ℤ pos (1 * t.t2))) × (g v ≤ℤ (g u +ℤ pos (1 * t.t2)))
 
 -- they meet the step from u to each other number
 pub record MeetsFrom (w : View) (g : ℕ → ℤ) (t : Thresholds) (u : ℕ) : Type 0 where
-  pub each : (v : ℕ) → v < 64 → Meets w g t u v
+  pub each : (v : ℕ) → v < 64 → MeetsStep w g t u v
 
 -- they meet every step: they are a loose grading to the denominator 1
 pub record AllMeet (w : View) (g : ℕ → ℤ) (t : Thresholds) : Type 0 where
@@ -45,7 +45,7 @@ abbrev pub AllSteps : View → List ℕ → Type 0
 AllSteps w xs = (i : ℕ) → i < length xs → is_step w (round xs i) (round xs (suc i)) ≡ true
 
 -- and so many of the steps are marks, and so many hops
-pub record Counted (w : View) (xs : List ℕ) (t : Tally) : Type 0 where
+pub record StepsCounted (w : View) (xs : List ℕ) (t : Tally) : Type 0 where
   pub steps : AllSteps w xs
   pub marks : marks_of w xs ≡ t.marks
   pub hops : hops_of w xs ≡ t.hops
@@ -56,6 +56,6 @@ pub record BothOn (w : View) (xs : List ℕ) (e h : ℕ) : Type 0 where
   pub hopped : 1 ≤ h
 
 -- xs shows the ratio e to h
-pub record Ratio (w : View) (xs : List ℕ) (e h : ℕ) : Type 0 where
+pub record RatioShown (w : View) (xs : List ℕ) (e h : ℕ) : Type 0 where
   pub shown : Shows w e h xs
   pub hopped : 1 ≤ h

@@ -3,7 +3,7 @@ ghost use Rattle.std.specs.Prelude.{◌≡◌, ◌<◌, slice_index};
 ghost use Rattle.model.specs.Sets.{has};
 ghost use Rattle.model.specs.Views.{two, step};
 ghost use Rattle.reading.specs.Claims.{row_marks, grade_of, claimed_view};
-ghost use Rattle.reading.specs.Tests.{Tells, Meets, MeetsFrom, AllMeet};
+ghost use Rattle.reading.specs.Tests.{Decides, MeetsStep, MeetsFrom, AllMeet};
 
 use arrayvec::ArrayVec;
 use model::bits::has_bit;
@@ -72,7 +72,7 @@ impl Claim {
     // Whether the grades meet the step from u to v: a mark leads up by at least t1, and a hop by at most t2 either way.
     fn meets(&self, u: u8, v: u8, thresholds: Thresholds) -> bool
         requires { (u < 64) × (v < 64) }
-        ensures { Tells result (Meets (claimed_view self.now) (grade_of self.now.depths) thresholds u v) }
+        ensures { Decides result (MeetsStep (claimed_view self.now) (grade_of self.now.depths) thresholds u v) }
     {
         let from = u64::from(self.depth(u));
         let to = u64::from(self.depth(v));
@@ -85,14 +85,14 @@ impl Claim {
 
     fn meets_from(&self, u: u8, thresholds: Thresholds) -> bool
         requires { u < 64 }
-        ensures { Tells result (MeetsFrom (claimed_view self.now) (grade_of self.now.depths) thresholds u) }
+        ensures { Decides result (MeetsFrom (claimed_view self.now) (grade_of self.now.depths) thresholds u) }
     {
         (0..64).all(|v| self.meets(u, v, thresholds))
     }
 
     // Whether the grades are a loose grading at these thresholds, to the denominator 1.
     pub(crate) fn is_loose(&self, thresholds: Thresholds) -> bool
-        ensures { Tells result (AllMeet (claimed_view self.now) (grade_of self.now.depths) thresholds) }
+        ensures { Decides result (AllMeet (claimed_view self.now) (grade_of self.now.depths) thresholds) }
     {
         // not all over the range, as above: the proof did not close for one within another
         for u in 0..64 {

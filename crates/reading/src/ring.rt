@@ -4,7 +4,7 @@ ghost use Rattle.model.specs.Ratios.{thresholds_at};
 ghost use Rattle.model.specs.Rings.{bit};
 ghost use Rattle.model.specs.Views.{marks, hops};
 ghost use Rattle.reading.specs.Claims.{claimed_view};
-ghost use Rattle.reading.specs.Tests.{Tells, Finds, New, Different, FirstSmallest, AllSteps, Counted, BothOn, Ratio};
+ghost use Rattle.reading.specs.Tests.{Decides, Finds, New, Different, FirstSmallest, AllSteps, StepsCounted, BothOn, RatioShown};
 
 use crate::claim::Claim;
 use model::step::Step;
@@ -56,7 +56,7 @@ impl Tally {
 // The steps from each record to the next, and from the last to the first: None where no step leads there.
 fn count_steps(claim: &Claim, ring: &[u8]) -> Option<Tally>
     requires { length ring.now ≤ 255 }
-    ensures { MatchOption result (AllSteps (claimed_view claim.now) ring.now → ⊥) (λ t. Counted (claimed_view claim.now) ring.now t) }
+    ensures { MatchOption result (AllSteps (claimed_view claim.now) ring.now → ⊥) (λ t. StepsCounted (claimed_view claim.now) ring.now t) }
 {
     let mut tally = Tally { marks: 0, hops: 0 };
     for (i, u) in ring.iter().enumerate() {
@@ -69,19 +69,19 @@ fn count_steps(claim: &Claim, ring: &[u8]) -> Option<Tally>
 // Whether the number at the place i is none of those before it.
 fn is_new(ring: &[u8], i: usize) -> bool
     requires { i < length ring.now }
-    ensures { Tells result (New ring.now i) }
+    ensures { Decides result (New ring.now i) }
 {
     !ring[..i].contains(&ring[i])
 }
 
 fn are_different(ring: &[u8]) -> bool
-    ensures { Tells result (Different ring.now) }
+    ensures { Decides result (Different ring.now) }
 {
     (0..ring.len()).all(|i| is_new(ring, i))
 }
 
 fn starts_smallest(ring: &[u8]) -> bool
-    ensures { Tells result (FirstSmallest ring.now) }
+    ensures { Decides result (FirstSmallest ring.now) }
 {
     ring.iter().all(|u| ring[0] <= *u)
 }
@@ -100,7 +100,7 @@ fn count_ring(claim: &Claim, ring: &[u8]) -> Option<Tally>
 
 // The ratio that the ring shows, which is 0 to 1 where it is empty: None where it shows none, or its ratio has no hop.
 pub(crate) fn shown_ratio(claim: &Claim) -> Option<Tally>
-    ensures { Finds result (Ratio (claimed_view claim.now) claim.now.ring.items) }
+    ensures { Finds result (RatioShown (claimed_view claim.now) claim.now.ring.items) }
 {
     if claim.ring.is_empty() {
         Some(Tally { marks: 0, hops: 1 })

@@ -4,7 +4,7 @@ ghost use Rattle.model.specs.Sets.{has};
 ghost use Rattle.form.specs.Reading.{records_part, marks_part, depths_part, ring_part, release};
 ghost use Rattle.form.specs.Sections.{records_below};
 ghost use Rattle.reading.specs.Giving.{GivesAs};
-ghost use Rattle.reading.specs.Claims.{of_set, IsSet, AreRows, ArePlaces, IsRing, Stands};
+ghost use Rattle.reading.specs.Claims.{of_set, IsSet, AreRows, ArePlaces, IsRing, StandsFor};
 
 use crate::claim::Claim;
 use crate::reader::Reader;
@@ -66,7 +66,7 @@ fn read_ring(reader: &mut Reader<'_>) -> Result<ArrayVec<u8, 255>, Decline>
 
 // The whole, up to the last byte.
 pub(crate) fn read_claim(bytes: &[u8]) -> Result<Claim, Decline>
-    ensures { GivesAs Stands (release bytes.now) [] result }
+    ensures { GivesAs StandsFor (release bytes.now) [] result }
 {
     let mut reader = Reader::new(bytes);
     let records = read_records(&mut reader)?;

@@ -11,7 +11,7 @@ use Rattle.grading.specs.declared.ratio.Ratio.{Ratio}
 use Rattle.grading.specs.Outcomes.{Memory, suffices, Declined}
 use Rattle.grading.specs.Ratios.{RatioGiven, RatioFound, RatioOrCircle, valueless}
 use Rattle.release.specs.Grades.{Short}
-use Rattle.release.specs.Writing.{Puts, Writes, found, circled, Refused, Released, release_of}
+use Rattle.release.specs.Writing.{Puts, Writes, found, circled, MemoryRefused, Released, release_of}
 
 -- a ring of at most 64 records has at most 64 marks and 64 hops; and 0 to 1 has no more
 few : (w : View) (e h : ℕ) (xs : List ℕ) → length xs ≤ 64 → Shows w e h xs → (e ≤ 64) × (h ≤ 64)
@@ -46,7 +46,7 @@ module _ (w : View) (before after : Memory Whole) where
   released r {out_before = out_before} {out_after = out_after} {a = a} o puts = go (suffices before) o
     where
       go : (b : Bool) → MatchBool b (RatioGiven w r before after) (Declined 1 before after (valueless (Ok r)))
-          → MatchBool b (Writes w before after out_before out_after a) (Refused before after out_before out_after a)
+          → MatchBool b (Writes w before after out_before out_after a) (MemoryRefused before after out_before out_after a)
       go true s = found r s puts
       go false s = absurd (omega (arith, s.answer))
 
@@ -55,6 +55,6 @@ module _ (w : View) (before after : Memory Whole) where
   declined d out o = go (suffices before) o
     where
       go : (b : Bool) → MatchBool b (RatioOrCircle w before after (Err d)) (Declined 1 before after (valueless {X = Ratio} (Err d)))
-          → MatchBool b (Writes w before after out out (Err d)) (Refused before after out out (Err d))
+          → MatchBool b (Writes w before after out out (Err d)) (MemoryRefused before after out out (Err d))
       go true s = circled d s.0 s.1 refl
       go false s = record { memory = s; output = refl }

@@ -4,9 +4,9 @@ use Rattle.model.specs.Views.{View}
 use Rattle.scale.specs.declared.whole.Whole.{Whole}
 use Rattle.scale.specs.Wholes.{of_whole}
 
-abbrev pub grade_at : List Whole → ℕ → ℤ
-grade_at grades u = (slice_index_or grades u (of_whole (pos 0))).value
+abbrev pub grade_number : List Whole → ℕ → ℤ
+grade_number grades u = (slice_index_or grades u (of_whole (pos 0))).value
 
 -- no grade of a standing record is further than 4,096 from 0
 abbrev pub Short : View → List Whole → Type 0
-Short w grades = (u : ℕ) → u < 64 → w.stands u ≡ true → unsigned_abs (grade_at grades u) ≤ 4096
+Short w grades = (u : ℕ) → u < 64 → w.stands u ≡ true → unsigned_abs (grade_number grades u) ≤ 4096

@@ -10,11 +10,11 @@ use Rattle.grading.specs.Outcomes.{Memory, suffices, Declined, Shown}
 use Rattle.grading.specs.Ratios.{RatioGiven, valueless}
 use Rattle.form.specs.Laid.{laid_out}
 use Rattle.form.specs.Sections.{finding}
-use Rattle.release.specs.Grades.{grade_at}
+use Rattle.release.specs.Grades.{grade_number}
 
 -- the release of what stands in w, by the finding r that the least ratio leaves in memory: its records and marks, the depths of its grades, its ring
 abbrev pub release_of : View → Memory Whole → Ratio → List ℕ
-release_of w m r = laid_out (finding w (grade_at m.grades) (take r.ring m.ring))
+release_of w m r = laid_out (finding w (grade_number m.grades) (take r.ring m.ring))
 
 -- bytes put at the front of the output, with their number as the answer; or declined by 1 where it is too short, and kept whole
 pub data Puts (bytes before after : List ℕ) : Result ℕ Decline → Type 0 where
@@ -27,10 +27,10 @@ pub data Writes (w : View) (before after : Memory Whole) (out_before out_after :
   circled : (d : Decline) → number_of d ≡ 12 → Shown (Circle w) (ring_length d) before after → out_after ≡ out_before → Writes w before after out_before out_after (Err d)
 
 -- declined by 1 for the memory, with all of it and the output kept
-pub record Refused (before after : Memory Whole) (out_before out_after : List ℕ) (a : Result ℕ Decline) : Type 0 where
+pub record MemoryRefused (before after : Memory Whole) (out_before out_after : List ℕ) (a : Result ℕ Decline) : Type 0 where
   pub memory : Declined 1 before after (valueless a)
   pub output : out_after ≡ out_before
 
 -- the checks in their order: 1 for the memory, 12, and then 1 for the output
 abbrev pub Released : View → Memory Whole → Memory Whole → List ℕ → List ℕ → Result ℕ Decline → Type 0
-Released w before after out_before out_after a = MatchBool (suffices before) (Writes w before after out_before out_after a) (Refused before after out_before out_after a)
+Released w before after out_before out_after a = MatchBool (suffices before) (Writes w before after out_before out_after a) (MemoryRefused before after out_before out_after a)

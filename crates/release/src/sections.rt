@@ -6,7 +6,7 @@ ghost use Rattle.form.specs.Laid.{of_pair, of_two};
 ghost use Rattle.sheet.specs.Views.{view_of};
 ghost use Rattle.release.specs.Drafts.{Adds, DraftOf};
 ghost use Rattle.form.specs.Sections.{records_below, marks_from, marks_below, depths_below, finding};
-ghost use Rattle.release.specs.Grades.{grade_at, Short};
+ghost use Rattle.release.specs.Grades.{grade_number, Short};
 
 use crate::count::{count_marks, count_records};
 use crate::draft::{Draft, put_two};
@@ -64,7 +64,7 @@ fn put_depths<S: Sheet>(draft: &mut Draft, sheet: &S, grades: &[Whole])
     requires room { array_vec_len draft.old + 128 ≤ 8453 }
     requires grades { 64 ≤ length grades.now }
     requires short { Short (view_of S.Sheet sheet.now) grades.now }
-    ensures adds { Adds draft.old (flat_map of_two (depths_below (view_of S.Sheet sheet.now) (grade_at grades.now) 64)) draft.new }
+    ensures adds { Adds draft.old (flat_map of_two (depths_below (view_of S.Sheet sheet.now) (grade_number grades.now) 64)) draft.new }
     ensures within { array_vec_len draft.new ≤ array_vec_len draft.old + 128 }
 {
     for (u, grade) in grades[..64].iter().enumerate() {
@@ -86,7 +86,7 @@ pub(crate) fn lay_out<S: Sheet>(sheet: &S, grades: &[Whole], ring: &[u8]) -> Dra
     requires ring { length ring.now ≤ 64 }
     requires grades { 64 ≤ length grades.now }
     requires short { Short (view_of S.Sheet sheet.now) grades.now }
-    ensures { DraftOf (finding (view_of S.Sheet sheet.now) (grade_at grades.now) ring.now) result }
+    ensures { DraftOf (finding (view_of S.Sheet sheet.now) (grade_number grades.now) ring.now) result }
 {
     let records = count_records(sheet);
     let mut draft = Draft::new();

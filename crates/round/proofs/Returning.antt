@@ -22,12 +22,12 @@ use Rattle.form.specs.Got.{Got}
 use Rattle.form.specs.Laid.{laid_out}
 use Rattle.form.specs.Sections.{finding}
 use Rattle.form.proofs.Back.{reads_back}
-use Rattle.release.specs.Grades.{grade_at}
-use Rattle.release.specs.Writing.{release_of, Puts, put, Writes, found, Refused, Released}
+use Rattle.release.specs.Grades.{grade_number}
+use Rattle.release.specs.Writing.{release_of, Puts, put, Writes, found, MemoryRefused, Released}
 use Rattle.release.proofs.Releasing.{short_given}
 use Rattle.reading.specs.declared.release.Release.{Release}
 use Rattle.reading.specs.Told.{Told, Drawn, Holds, told_by}
-use Rattle.reading.specs.Reads.{told, Judged, Answered, Reads}
+use Rattle.reading.specs.Reads.{told_in, HoldsOrNot, FormFirst, Reads}
 use Rattle.reading.proofs.Judging.{one_ratio}
 use Rattle.round.specs.Trips.{TellsOf, ReadBack}
 use Rattle.round.proofs.Valid.{valid}
@@ -47,7 +47,7 @@ graded_same w t g h same l = record {
 module _ (w : View) (drawn : Drawn w) (before after : Memory Whole) where
   module _ (r : Ratio) (given : RatioGiven w r before after) where
     abbrev g : ℕ → ℤ
-    g = grade_at after.grades
+    g = grade_number after.grades
 
     abbrev xs : List ℕ
     xs = take r.ring after.ring
@@ -63,9 +63,9 @@ module _ (w : View) (drawn : Drawn w) (before after : Memory Whole) where
     low (inr ring) i l = ring.ring.cycle.below i l
 
     -- The contents are read back to their end, since they meet the rules of the form.
-    judged : (a : Result Release Decline) → Reads (laid_out c) a → Judged (told_by c) a
+    judged : (a : Result Release Decline) → Reads (laid_out c) a → HoldsOrNot (told_by c) a
     judged a reads =
-        subst (λ (k : Got Contents). Answered k a)
+        subst (λ (k : Got Contents). FormFirst k a)
         (reads_back c (valid w drawn g xs (λ u l s. omega (arith, short_given w before after r given u l s)) (omega (arith, short)) (low given.least.shown))) reads
 
     same_grade : (e h u : ℕ) → w.stands u ≡ true → (told_by c e h).grade u ≡ g u
@@ -82,16 +82,16 @@ module _ (w : View) (drawn : Drawn w) (before after : Memory Whole) where
               (graded_same w (thresholds_at r.marks r.hops) g (told_by c r.marks r.hops).grade (same_grade r.marks r.hops) given.graded.best.loose);
         }
 
-    tells : (release : Release) → told release ≡ told_by c (told release).marks (told release).hops → Holds (told release) → TellsOf w after r release
+    tells : (release : Release) → told_in release ≡ told_by c (told_in release).marks (told_in release).hops → Holds (told_in release) → TellsOf w after r release
     tells release e held =
-        let view = ap (λ (t : Told). t.view) e ∙ view_told w drawn g xs (told release).marks (told release).hops in
+        let view = ap (λ (t : Told). t.view) e ∙ view_told w drawn g xs (told_in release).marks (told_in release).hops in
         let ring = ap (λ (t : Told). t.ring) e in
-        let shown = subst (λ (v : View). Shows v (told release).marks (told release).hops xs) view
-        (subst (λ (ys : List ℕ). Shows (told release).view (told release).marks (told release).hops ys) ring held.shown) in
-        let one = one_ratio w xs (told release).marks (told release).hops r.marks r.hops shown given.least.shown in
+        let shown = subst (λ (v : View). Shows v (told_in release).marks (told_in release).hops xs) view
+        (subst (λ (ys : List ℕ). Shows (told_in release).view (told_in release).marks (told_in release).hops ys) ring held.shown) in
+        let one = one_ratio w xs (told_in release).marks (told_in release).hops r.marks r.hops shown given.least.shown in
         record {
           view = view;
-          grades = λ u s. ap (λ (t : Told). t.grade u) e ∙ same_grade (told release).marks (told release).hops u s;
+          grades = λ u s. ap (λ (t : Told). t.grade u) e ∙ same_grade (told_in release).marks (told_in release).hops u s;
           ring = ring;
           marks = one.0;
           hops = one.1;
@@ -119,7 +119,7 @@ module _ (w : View) (drawn : Drawn w) (before after : Memory Whole) where
   pub written_within : (out_before out_after : List ℕ) (n : ℕ) → Released w before after out_before out_after (Ok n) → n ≤ length out_after
   written_within out_before out_after n released = go (suffices before) released
     where
-      go : (b : Bool) → MatchBool b (Writes w before after out_before out_after (Ok n)) (Refused before after out_before out_after (Ok n))
+      go : (b : Bool) → MatchBool b (Writes w before after out_before out_after (Ok n)) (MemoryRefused before after out_before out_after (Ok n))
           → n ≤ length out_after
       go true s = within out_before out_after n s
       go false s = absurd (omega (arith, s.memory.answer))
@@ -128,7 +128,7 @@ module _ (w : View) (drawn : Drawn w) (before after : Memory Whole) where
       → Reads (take n out_after) a → ReadBack w before after a
   trip out_before out_after n a released reads = go (suffices before) released
     where
-      go : (b : Bool) → MatchBool b (Writes w before after out_before out_after (Ok n)) (Refused before after out_before out_after (Ok n))
+      go : (b : Bool) → MatchBool b (Writes w before after out_before out_after (Ok n)) (MemoryRefused before after out_before out_after (Ok n))
           → ReadBack w before after a
       go true s = wrote out_before out_after n a s reads
       go false s = absurd (omega (arith, s.memory.answer))

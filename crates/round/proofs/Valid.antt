@@ -5,7 +5,7 @@ use Rattle.std.proofs.lemmas.Bool.{lt-ltb, le-leb, eq-eqb, or_left, or_right, an
 use Rattle.model.specs.Views.{View}
 use Rattle.form.specs.Contents.{listed}
 use Rattle.form.specs.Reading.{above, later, any, not_before}
-use Rattle.form.specs.Laid.{Chain, Number, NumberFrom, Word, PairFrom, Valid}
+use Rattle.form.specs.Laid.{Chain, RecordNumber, NumberFrom, Word, PairFrom, Valid}
 use Rattle.form.specs.Sections.{one_if, records_below, marks_from, marks_below, depths_below, finding}
 use Rattle.form.proofs.Chains.{behind, behind_none, behind_more, chain_more, chain_each}
 use Rattle.form.proofs.Lookups.{listed_below}
@@ -108,6 +108,6 @@ module _ (w : View) (drawn : Drawn w) where
     mark_count = omega (arith, marks_few w 64);
     depth_count = depths_long w g 64;
     depths = depths_fit g fits 64 (omega arith);
-    ring = chain_each Number any 0 xs (λ t i l. omega (arith, low i l));
+    ring = chain_each RecordNumber any 0 xs (λ t i l. omega (arith, low i l));
     ring_count = short;
   }

@@ -8,19 +8,19 @@ use Rattle.sheet.specs.Views.{view_of}
 use Rattle.grading.specs.declared.ratio.Ratio.{Ratio}
 use Rattle.grading.specs.Outcomes.{Memory}
 use Rattle.grading.specs.Ratios.{RatioGiven}
-use Rattle.release.specs.Grades.{grade_at}
+use Rattle.release.specs.Grades.{grade_number}
 use Rattle.release.specs.Writing.{Released}
 use Rattle.reading.specs.declared.release.Release.{Release}
-use Rattle.reading.specs.Reads.{told, Reads}
+use Rattle.reading.specs.Reads.{told_in, Reads}
 
 -- the release tells of what stands in w, by the finding r that the least ratio leaves in memory: just these records and marks, the
 -- grades of these records, the ring, and its e and h
 pub record TellsOf (w : View) (m : Memory Whole) (r : Ratio) (release : Release) : Type 0 where
-  pub view : (told release).view ≡ w
-  pub grades : (u : ℕ) → w.stands u ≡ true → (told release).grade u ≡ grade_at m.grades u
-  pub ring : (told release).ring ≡ take r.ring m.ring
-  pub marks : (told release).marks ≡ r.marks
-  pub hops : (told release).hops ≡ r.hops
+  pub view : (told_in release).view ≡ w
+  pub grades : (u : ℕ) → w.stands u ≡ true → (told_in release).grade u ≡ grade_number m.grades u
+  pub ring : (told_in release).ring ≡ take r.ring m.ring
+  pub marks : (told_in release).marks ≡ r.marks
+  pub hops : (told_in release).hops ≡ r.hops
 
 -- it tells of the least ratio's finding; the clause `back` ties it to the bytes that were written
 abbrev pub TellsOfFinding : View → Memory Whole → Memory Whole → Release → Type 0

@@ -8,15 +8,15 @@ use Rattle.samples.specs.Folders.{folder, view}
 use Rattle.samples.specs.Results.{LooseGrades, StrictGrades, RatioIs, ReleaseIs, NoRings, CircleIs}
 
 -- the thresholds t1 and t2
-abbrev pub at : ℕ → ℕ → Thresholds
-at t1 t2 = record { t1 = t1; t2 = t2 }
+abbrev pub thresholds : ℕ → ℕ → Thresholds
+thresholds t1 t2 = record { t1 = t1; t2 = t2 }
 
 -- ---- the folders: records and marks, and what is thereby seen
-abbrev pub two : List ℕ
-two = 0 ∷ 1 ∷ []
+abbrev pub first_two : List ℕ
+first_two = 0 ∷ 1 ∷ []
 
-abbrev pub four : List ℕ
-four = 0 ∷ 1 ∷ 2 ∷ 3 ∷ []
+abbrev pub first_four : List ℕ
+first_four = 0 ∷ 1 ∷ 2 ∷ 3 ∷ []
 
 abbrev pub three_in_a_row : List (ℕ × ℕ)
 three_in_a_row = (0, 1) ∷ (1, 2) ∷ (2, 3) ∷ []
@@ -28,23 +28,23 @@ abbrev pub nothing : View
 nothing = view (folder [] [])
 
 abbrev pub alike : View
-alike = view (folder two [])
+alike = view (folder first_two [])
 
 abbrev pub one_mark : View
-one_mark = view (folder two ((0, 1) ∷ []))
+one_mark = view (folder first_two ((0, 1) ∷ []))
 
 abbrev pub both_ways : View
-both_ways = view (folder two ((0, 1) ∷ (1, 0) ∷ []))
+both_ways = view (folder first_two ((0, 1) ∷ (1, 0) ∷ []))
 
 abbrev pub path : View
-path = view (folder four three_in_a_row)
+path = view (folder first_four three_in_a_row)
 
 -- the path, with one record set aside
 abbrev pub path_without : ℕ → View
-path_without u = view (set_aside (folder four three_in_a_row) u)
+path_without u = view (set_aside (folder first_four three_in_a_row) u)
 
 abbrev pub two_marks : View
-two_marks = view (folder four ((0, 1) ∷ (2, 3) ∷ []))
+two_marks = view (folder first_four ((0, 1) ∷ (2, 3) ∷ []))
 
 -- record 4 is unmarked
 abbrev pub upward : View
@@ -60,21 +60,21 @@ outer_mark_bytes = 3 ∷ 0 ∷ 1 ∷ 2 ∷ 1 ∷ 0 ∷ 0 ∷ 2 ∷ 3 ∷ 2 ∷ 0
 
 -- thresholds at which the path has no grading, and at which it has one
 pub record PathGraded : Type 0 where
-  pub loose_declined : ForbidsLoosely path (at 1 2) four
-  pub loose_given : LooseGrades path (at 1 3) (3 ∷ 2 ∷ 1 ∷ 0 ∷ [])
-  pub strict_declined : ForbidsStrictly path (at 1 3) four
-  pub strict_given : StrictGrades path (at 1 4) ((3, 3) ∷ (2, 2) ∷ (1, 1) ∷ (0, 0) ∷ [])
+  pub loose_declined : ForbidsLoosely path (thresholds 1 2) first_four
+  pub loose_given : LooseGrades path (thresholds 1 3) (3 ∷ 2 ∷ 1 ∷ 0 ∷ [])
+  pub strict_declined : ForbidsStrictly path (thresholds 1 3) first_four
+  pub strict_given : StrictGrades path (thresholds 1 4) ((3, 3) ∷ (2, 2) ∷ (1, 1) ∷ (0, 0) ∷ [])
 
 pub record Samples : Type 0 where
   pub no_records : RatioIs nothing 0 1 [] [] × ReleaseIs nothing 0 1 (0 ∷ 0 ∷ 0 ∷ 0 ∷ 0 ∷ [])
   pub no_marks : RatioIs alike 0 1 [] (0 ∷ 0 ∷ [])
   pub mark_alone : RatioIs one_mark 0 1 [] (1 ∷ 0 ∷ []) × NoRings one_mark
-  pub a_path : RatioIs path 3 1 four (3 ∷ 2 ∷ 1 ∷ 0 ∷ [])
+  pub a_path : RatioIs path 3 1 first_four (3 ∷ 2 ∷ 1 ∷ 0 ∷ [])
   pub its_gradings : PathGraded
   pub last_aside : RatioIs (path_without 3) 2 1 (0 ∷ 1 ∷ 2 ∷ []) (2 ∷ 1 ∷ 0 ∷ [])
   pub second_aside : RatioIs (path_without 1) 1 2 (0 ∷ 2 ∷ 3 ∷ []) (1 ∷ 0 ∷ 2 ∷ 0 ∷ [])
-  pub marked_both_ways : CircleIs both_ways two
-  pub marks_apart : RatioIs two_marks 2 2 four (2 ∷ 0 ∷ 2 ∷ 0 ∷ [])
+  pub marked_both_ways : CircleIs both_ways first_two
+  pub marks_apart : RatioIs two_marks 2 2 first_four (2 ∷ 0 ∷ 2 ∷ 0 ∷ [])
   pub all_upward : RatioIs upward 3 2 (0 ∷ 1 ∷ 2 ∷ 3 ∷ 4 ∷ []) (6 ∷ 4 ∷ 2 ∷ 0 ∷ 3 ∷ [])
   pub three_records : RatioIs outer_mark 1 2 (0 ∷ 2 ∷ 1 ∷ []) (2 ∷ 1 ∷ 0 ∷ [])
       × ReleaseIs outer_mark 1 2 outer_mark_bytes

@@ -18,7 +18,7 @@ use Rattle.archive.specs.declared.call.Call.{Call}
 use Rattle.archive.specs.declared.call.Call.TheVariants.{Enter, Mark, Strike, SetAside, BringBack, Loose, Strict, Unit as UnitsCall, Ratio as RatioCall, Wrong}
 use Rattle.archive.specs.declared.answer.Answer.{Answer}
 use Rattle.archive.specs.declared.answer.Graded.{Graded}
-use Rattle.archive.specs.Listed.{entry, listed}
+use Rattle.archive.specs.Entries.{entry, entries_below}
 use Rattle.archive.specs.Told.{outside, forced, given, circled, found, LooseTold, StrictTold, UnitTold, RatioTold}
 use Rattle.archive.specs.Accounts.{stands_in}
 use Rattle.archive.specs.Right.{Plain, taken, declined, Right}
@@ -40,25 +40,25 @@ append_each P (x ∷ xs) ys f g zero e l is = f 0 e (omega arith) is
 append_each P (x ∷ xs) ys f g (suc k) e l is = append_each P xs ys (λ j d h i. f (suc j) d (omega arith) i) g k e (omega arith) is
 
 module _ {V : Type 0} (w : View) (g : ℕ → V) where
-  listed_each : (P : ℕ → V → Type 0) (n : ℕ) → ((u : ℕ) → u < n → w.stands u ≡ true → P u (g u)) → (k : ℕ) (e : Graded V) → k < length (listed w g n) → e ≡ get_or (listed w g n) k e → P e.«record» e.grade
-  unfolding listed
-  listed_each P zero f k e l is = absurd (omega arith)
-  listed_each P (suc n) f k e l is = append_each (λ (e : Graded V). P e.«record» e.grade) (listed w g n) (entry (w.stands n) n (g n))
-      (listed_each P n (λ u h. f u (omega arith))) (entry_each P (w.stands n) n (g n) (f n (omega arith))) k e l is
+  entries_each : (P : ℕ → V → Type 0) (n : ℕ) → ((u : ℕ) → u < n → w.stands u ≡ true → P u (g u)) → (k : ℕ) (e : Graded V) → k < length (entries_below w g n) → e ≡ get_or (entries_below w g n) k e → P e.«record» e.grade
+  unfolding entries_below
+  entries_each P zero f k e l is = absurd (omega arith)
+  entries_each P (suc n) f k e l is = append_each (λ (e : Graded V). P e.«record» e.grade) (entries_below w g n) (entry (w.stands n) n (g n))
+      (entries_each P n (λ u h. f u (omega arith))) (entry_each P (w.stands n) n (g n) (f n (omega arith))) k e l is
 
   entry_short : (b : Bool) (u : ℕ) (z : V) → length (entry b u z) ≤ 1
   entry_short true u z = omega arith
   entry_short false u z = omega arith
 
-  listed_short : (n : ℕ) → length (listed w g n) ≤ n
-  unfolding listed
-  listed_short zero = omega arith
-  listed_short (suc n) = omega (arith, length-append (listed w g n) (entry (w.stands n) n (g n)), listed_short n, entry_short (w.stands n) n (g n))
+  entries_short : (n : ℕ) → length (entries_below w g n) ≤ n
+  unfolding entries_below
+  entries_short zero = omega arith
+  entries_short (suc n) = omega (arith, length-append (entries_below w g n) (entry (w.stands n) n (g n)), entries_short n, entry_short (w.stands n) n (g n))
 
   -- the entries of a graded list: records below 256, grades of a small extent, at most 64
-  pub listed_modest : (extent : V → ℕ → Type 0) (xs : List (Graded V)) → ((u : ℕ) → u < 64 → w.stands u ≡ true → extent (g u) 4096) → xs ≡ listed w g 64 → ModestEntries extent xs × (length xs ≤ 64)
-  listed_modest extent xs small e = subst (λ (ys : List (Graded V)). ModestEntries extent ys × (length ys ≤ 64)) (sym e)
-      (listed_each (λ u z. (u < 256) × extent z 4096) 64 (λ u l st. (omega arith, small u l st)), listed_short 64)
+  pub entries_modest : (extent : V → ℕ → Type 0) (xs : List (Graded V)) → ((u : ℕ) → u < 64 → w.stands u ≡ true → extent (g u) 4096) → xs ≡ entries_below w g 64 → ModestEntries extent xs × (length xs ≤ 64)
+  entries_modest extent xs small e = subst (λ (ys : List (Graded V)). ModestEntries extent ys × (length ys ≤ 64)) (sym e)
+      (entries_each (λ u z. (u < 256) × extent z 4096) 64 (λ u l st. (omega arith, small u l st)), entries_short 64)
 
 -- ---- a ring
 -- its numbers are different and below 64, so that there are at most 64 of them
@@ -92,19 +92,19 @@ plain_fits n x (declined d e) = (tt, omega arith)
 loose_fits : (w : View) (t : Thresholds) (x : Answer) → LooseTold w t x → Fits x
 loose_fits w t x (outside d e l) = (tt, omega arith)
 loose_fits w t x (forced d v e long l f) = let m = ring_modest w (vec_items v) f.ring in (m.0, counted v m.1)
-loose_fits w t x (given v g l best e) = let m = listed_modest w g WholeExtent (vec_items v) (λ u h st. omega (arith, best.size u h st, low t l, near t l)) e in (m.0, counted v m.1)
+loose_fits w t x (given v g l best e) = let m = entries_modest w g WholeExtent (vec_items v) (λ u h st. omega (arith, best.size u h st, low t l, near t l)) e in (m.0, counted v m.1)
 
 strict_fits : (w : View) (t : Thresholds) (x : Answer) → StrictTold w t x → Fits x
 strict_fits w t x (outside d e l) = (tt, omega arith)
 strict_fits w t x (forced d v e long l f) = let m = ring_modest w (vec_items v) f.ring in (m.0, counted v m.1)
 strict_fits w t x (given v g l best e) =
-    let m = listed_modest w g (PairExtent WholeExtent UnitExtent) (vec_items v) (λ u h st. (omega (arith, (best.greatest.extent u h st).0), omega (arith, (best.greatest.extent u h st).1))) e in
+    let m = entries_modest w g (PairExtent WholeExtent UnitExtent) (vec_items v) (λ u h st. (omega (arith, (best.greatest.extent u h st).0), omega (arith, (best.greatest.extent u h st).1))) e in
     (m.0, counted v m.1)
 
 unit_fits : (w : View) (x : Answer) → UnitTold w x → Fits x
 unit_fits w x (outside d e l) = (tt, omega arith)
 unit_fits w x (forced d v e long l f) = let m = ring_modest w (vec_items v) f.ring in (m.0, counted v m.1)
-unit_fits w x (given v g l best e) = let m = listed_modest w g UnitExtent (vec_items v) (λ u h st. omega (arith, best.size u h st)) e in (m.0, counted v m.1)
+unit_fits w x (given v g l best e) = let m = entries_modest w g UnitExtent (vec_items v) (λ u h st. omega (arith, best.size u h st)) e in (m.0, counted v m.1)
 
 -- a ring's marks and hops are as many as its records, so at most 64
 shown_fits : (w : View) (e h : ℕ) (xs : List ℕ) → Shows w e h xs → (e < 256) × (h < 256) × ((k : ℕ) → get_or xs k 0 < 256) × (length xs ≤ 64)

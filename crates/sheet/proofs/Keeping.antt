@@ -11,8 +11,8 @@ use Rattle.sheet.specs.Meanings.{empty}
 use Rattle.sheet.specs.Checks.{entry_check, enter_check, pair_check, mark_check, strike_check}
 use Rattle.sheet.specs.Calls.{put_state, put_mark, entered, marked, struck, after_check, Called}
 use Rattle.sheet.specs.Kept.{present_states, kept_meaning, Irreflexive, PresentFrom, PresentTo}
-use Rattle.sheet.specs.Counts.{put_keeps, put_irreflexive}
 use Rattle.sheet.proofs.Checking.{Clear, called_by, call_taken, pair_clear, pair_open, pair_left}
+use Rattle.sheet.proofs.Changes.{put_keeps, put_irreflexive}
 
 present_stands : (b : Bool) → cond b Standing Absent ≡ Standing → b ≡ true
 present_stands true e = refl

@@ -1,3 +1,4 @@
 pub mod Checking
+pub mod Changes
 pub mod Keeping
 pub mod Tables

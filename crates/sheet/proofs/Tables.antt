@@ -10,14 +10,15 @@ use Rattle.std.proofs.lemmas.Bool.{cases_lt, cases_Bool, cases_eq, eq-eqb, ne_eq
 use Rattle.model.specs.Rings.{bit, sum_to}
 use Rattle.model.specs.Sets.{has, put}
 use Rattle.model.proofs.Digits.{has_bound, has_zero, ones_count}
-use Rattle.model.proofs.Sums.{sum_none, sum_front, sum_same}
+use Rattle.model.proofs.Sums.{sum_none, sum_front, sum_same, sum_bound}
 use Rattle.sheet.specs.Meanings.{pairs, empty}
 use Rattle.sheet.specs.Checks.{pair_check, mark_check, strike_check}
 use Rattle.sheet.specs.Calls.{put_mark, marked, struck, Called}
 use Rattle.sheet.specs.Kept.{present_states, Irreflexive, PresentFrom}
 use Rattle.sheet.specs.Rows.{row_marks, rows_meaning}
-use Rattle.sheet.specs.Counts.{sum_bound, pairs_none, put_irreflexive, pairs_put, pairs_room}
+use Rattle.sheet.specs.Counts.{pairs_room}
 use Rattle.sheet.proofs.Checking.{low_left, low_right}
+use Rattle.sheet.proofs.Changes.{pairs_none, put_irreflexive, pairs_put}
 use Rattle.sheet.proofs.Keeping.{Written, bare_empty, passed_clear, mark_taken, strike_taken}
 
 -- no row of a number above 63 has a bit

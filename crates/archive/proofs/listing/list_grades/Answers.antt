@@ -4,18 +4,18 @@ use Rattle.std.specs.declared.alloc.Global.{Global}
 use Rattle.model.specs.Views.{View}
 use Rattle.sheet.specs.Views.{view_of}
 use Rattle.archive.specs.declared.answer.Graded.{Graded}
-use Rattle.archive.specs.Listed.{entry, listed}
-use Rattle.archive.proofs.Entries.{listed_more}
+use Rattle.archive.specs.Entries.{entry, entries_below}
+use Rattle.archive.proofs.Entries.{entries_more}
 use Rattle.archive.proofs.listing.list_grades.Goals as goal
 use Rattle.archive.proofs.listing.list_grades.Goals.{then-stands+in_ok-push, else-stands}
 
 pub loop-u-init : goal.loop-u-init
-unfolding listed
+unfolding entries_below
 loop-u-init g c = c.new-list.ensures.items
 
 -- the record u comes to the list if it stands
-one_more : {V : Type 0} (w : View) (g : ℕ → V) (u : ℕ) (b : Bool) (before after : List (Graded V)) → b ≡ w.stands u → before ≡ listed w g u → after ≡ before ++ entry b u (g u) → after ≡ listed w g (u + 1)
-one_more w g u b before after is so_far more = more ∙ ap₂ (λ xs c. xs ++ entry c u (g u)) so_far is ∙ sym (listed_more w g u)
+one_more : {V : Type 0} (w : View) (g : ℕ → V) (u : ℕ) (b : Bool) (before after : List (Graded V)) → b ≡ w.stands u → before ≡ entries_below w g u → after ≡ before ++ entry b u (g u) → after ≡ entries_below w g (u + 1)
+one_more w g u b before after is so_far more = more ∙ ap₂ (λ xs c. xs ++ entry c u (g u)) so_far is ∙ sym (entries_more w g u)
 
 pub loop-u-preserved : goal.loop-u-preserved
 loop-u-preserved g c =
@@ -40,4 +40,4 @@ pub returns : goal.returns
 returns g c =
     let long : length (take 64 c.args.grades.now) ≡ 64 = length-take-le 64 c.args.grades.now c.requires in
     let e : c.loop-u.u ≡ 64 = omega arith in
-    c.loop-u.invariant ∙ ap (listed (view_of g.S.Sheet c.args.sheet.now) (λ u. get_or c.args.grades.now u g.V.Scale.nothing)) e
+    c.loop-u.invariant ∙ ap (entries_below (view_of g.S.Sheet c.args.sheet.now) (λ u. get_or c.args.grades.now u g.V.Scale.nothing)) e

@@ -3,7 +3,7 @@ use Rattle.std.proofs.lemmas.Result.{err_from_is_err_and}
 use Rattle.model.specs.Refusals.{number_of}
 use Rattle.model.specs.Sets.{has}
 use Rattle.model.proofs.Digits.{has_bound}
-use Rattle.form.specs.Reading.{two_bytes, pairs, pair_from, later}
+use Rattle.form.specs.Reading.{two_bytes, rising_pairs, pair_from, later}
 use Rattle.form.proofs.Steps.{then_is}
 use Rattle.reading.specs.Claims.{AreRows}
 use Rattle.reading.proofs.Progress.{begun, more, stopped, all}
@@ -12,7 +12,7 @@ use Rattle.reading.proofs.sections.read_marks.Goals as goal
 
 pub loop-init : goal.loop-init
 loop-init c =
-    let from = then_is (two_bytes c.args.reader.now.rest.now) (λ n r. pairs (has c.args.records) n r) c.in_ok-end.end c.two_bytes.new.self.rest.now c.in_ok-end.ensures in
+    let from = then_is (two_bytes c.args.reader.now.rest.now) (λ n r. rising_pairs (has c.args.records) n r) c.in_ok-end.end c.two_bytes.new.self.rest.now c.in_ok-end.ensures in
     (refl, begun (pair_from (has c.args.records)) later c.in_ok-end.end (c.in_ok-end.end - 0) (omega arith) from (rows_none c.args.records))
 
 pub loop-preserved : goal.loop-preserved

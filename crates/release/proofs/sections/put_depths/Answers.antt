@@ -7,7 +7,7 @@ use Rattle.sheet.specs.Views.{view_of}
 use Rattle.form.specs.Laid.{of_two}
 use Rattle.release.specs.Drafts.{Adds}
 use Rattle.form.specs.Sections.{one_if, depths_below}
-use Rattle.release.specs.Grades.{grade_at}
+use Rattle.release.specs.Grades.{grade_number}
 use Rattle.release.proofs.Adding.{adds_none, adds_as, adds_more}
 use Rattle.form.proofs.Listing.{depths_more}
 use Rattle.release.proofs.sections.put_depths.Goals as goal
@@ -27,7 +27,7 @@ put_depth-requires-clause-short g c =
 pub loop-u-preserved : goal.loop-u-preserved
 loop-u-preserved g c =
     let w = view_of g.S.Sheet c.args.sheet.now in
-    let z = grade_at c.args.grades.now in
+    let z = grade_number c.args.grades.now in
     let u = c.loop-u.u in
     let so_far = c.loop-u.invariant in
     let stands : c.stands.result ≡ w.stands u = c.stands.ensures ∙ ap is_standing c.state.ensures in
@@ -53,6 +53,6 @@ returns g c =
     let long : length (take 64 grades) ≡ 64 = length-take-le 64 grades c.requires.grades in
     let e : c.loop-u.u ≡ 64 = omega arith in
     record {
-      adds = subst (λ (n : ℕ). Adds c.args.draft.now (flat_map of_two (depths_below w (grade_at grades) n)) c.loop-u.draft) e c.loop-u.invariant.0;
+      adds = subst (λ (n : ℕ). Adds c.args.draft.now (flat_map of_two (depths_below w (grade_number grades) n)) c.loop-u.draft) e c.loop-u.invariant.0;
       within = omega (arith, c.loop-u.invariant.1);
     }

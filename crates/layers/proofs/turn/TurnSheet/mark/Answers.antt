@@ -1,5 +1,5 @@
 use Rattle.std.proofs.Common.{rules}
-use Rattle.layers.specs.Turning.{turned_marks}
+use Rattle.layers.proofs.Turning.{turned_marks}
 use Rattle.layers.proofs.turn.TurnSheet.mark.Goals as goal
 
 pub returns : goal.returns

@@ -1,5 +1,5 @@
 use Rattle.std.proofs.Common.{rules}
-use Rattle.layers.specs.Turning.{turned_strikes}
+use Rattle.layers.proofs.Turning.{turned_strikes}
 use Rattle.layers.proofs.turn.TurnSheet.strike.Goals as goal
 
 pub returns : goal.returns

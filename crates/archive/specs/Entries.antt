@@ -9,6 +9,6 @@ entry true u z = record { «record» = u; grade = z } ∷ []
 entry false u z = []
 
 -- the records below n that stand, each with its grade
-unfoldable pub listed : {V : Type 0} → View → (ℕ → V) → ℕ → List (Graded V)
-listed w g zero = []
-listed w g (suc n) = listed w g n ++ entry (w.stands n) n (g n)
+unfoldable pub entries_below : {V : Type 0} → View → (ℕ → V) → ℕ → List (Graded V)
+entries_below w g zero = []
+entries_below w g (suc n) = entries_below w g n ++ entry (w.stands n) n (g n)

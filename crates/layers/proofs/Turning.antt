@@ -1,18 +1,15 @@
--- A turned sheet is a sheet: its checks, its changes and its counts are those below, with the two records exchanged. Assumes nothing.
-use Rattle.std.specs.Prelude.{◌≡◌, ℕ, zero, suc, ◌+◌, ◌-◌, Bool, true, false, cond, Result, ◌==◌, nat_lt}
-use Rattle.std.proofs.Common.{sym, ap, ◌∙◌, arith}
+-- The calls of a turned sheet: the checks and changes are those below, with the two records exchanged. Assumes nothing.
+use Rattle.std.specs.Prelude.{◌≡◌, ℕ, ◌+◌, ◌-◌, Bool, true, false, cond, Result, ◌==◌, nat_lt}
+use Rattle.std.proofs.Common.{ap, arith}
 use Rattle.std.proofs.Math.Path.{fun_ext}
 use Rattle.std.proofs.Math.Bool.{or_comm, and_comm}
 use Rattle.std.proofs.lemmas.Bool.Decides.{nat_tests}
 use Rattle.model.specs.declared.decline.Decline.{Decline}
-use Rattle.model.specs.Rings.{bit, sum_to}
-use Rattle.model.proofs.Sums.{sum_plus}
 use Rattle.sheet.specs.declared.state.State.{State}
 use Rattle.sheet.specs.States.{is_absent, is_aside}
-use Rattle.sheet.specs.Meanings.{Meaning, Lawful, pairs}
+use Rattle.sheet.specs.Meanings.{Meaning}
 use Rattle.sheet.specs.Checks.{pair_check, mark_check, strike_check}
 use Rattle.sheet.specs.Calls.{put_mark, marked, struck, Called}
-use Rattle.sheet.specs.Counts.{sum_zero}
 use Rattle.sheet.proofs.Checking.{called_by}
 use Rattle.layers.specs.Turns.{turned, turned_meaning}
 
@@ -27,28 +24,6 @@ pair_turn u v a b k =
 put_turn : (m : ℕ → ℕ → Bool) (u v : ℕ) (b : Bool) → turned (put_mark m v u b) ≡ put_mark (turned m) u v b
 unfolding put_mark
 put_turn m u v b = fun_ext (λ x. fun_ext (λ y. ap (λ (t : Bool). cond t b (m y x)) (and_comm (y == v) (x == u))))
-
--- A double sum can be taken in either order: by induction on the outer range, adding one row each time.
-sum_swap : (n m : ℕ) (f : ℕ → ℕ → ℕ) → sum_to (λ u. sum_to (λ v. f u v) m) n ≡ sum_to (λ v. sum_to (λ u. f u v) n) m
-unfolding sum_to
-sum_swap zero m f = sym (sum_zero m)
-sum_swap (suc n) m f =
-    ap (λ (x : ℕ). x + sum_to (λ v. f n v) m) (sum_swap n m f)
-    ∙ sym (sum_plus (λ v. sum_to (λ u. f u v) n) (λ v. f n v) m)
-
-pairs_turn : (m : ℕ → ℕ → Bool) → pairs (turned m) ≡ pairs m
-unfolding pairs
-pairs_turn m = sum_swap 64 64 (λ u v. bit (m v u))
-
-pub turned_lawful : {m : Meaning} → Lawful m → Lawful (turned_meaning m)
-turned_lawful {m = m} l = record {
-  beyond = l.beyond;
-  ends = λ u v h. let e = l.ends v u h in (e.1, e.0, λ i. e.2 (sym i));
-  counted = omega (arith, pairs_turn m.marks, l.counted);
-  room = l.room;
-  least = l.least;
-  most = l.most;
-}
 
 -- a call below with the records exchanged is the call on the turned sheet
 pub turned_marks : {m after : Meaning} (u v : ℕ) {r : Result (Unit {0}) Decline} → Called (mark_check m v u) m (marked m v u) after r
