@@ -4,8 +4,7 @@ use Rattle.std.proofs.lemmas.Bool.{cases_eq, and_parts}
 use Rattle.model.specs.Sets.{has, Taken}
 use Rattle.model.proofs.Digits.{has_bound, put_here, put_other}
 use Rattle.scale.specs.declared.scale.Scale.{Ghosts}
-use Rattle.scale.specs.Scales.{Lawful}
-use Rattle.scale.proofs.Order.{asym, le_trans, le_plus, by_bool, clash}
+use Rattle.scale.proofs.Order.{HasLaws, asym, le_trans, le_plus, by_bool, clash}
 use Rattle.grading.specs.Problems.{at}
 use Rattle.grading.specs.Rising.{value_at, Rising}
 use Rattle.grading.specs.Relaxing.{Lowered, by_value, by_steps, Below}
@@ -14,7 +13,7 @@ use Rattle.grading.specs.Relaxing.{Lowered, by_value, by_steps, Below}
 abbrev pub Passed : {V : Type 0} → Ghosts V → V → List V → List ℕ → ℕ → ℕ → List V → Type 0
 Passed s cost from order left n to = (i u : ℕ) → n ≤ i → i < length order → u < 64 → has left u ≡ false → s.less (s.plus cost (value_at s from order i)) (at s to u) ≡ false
 
-module _ {V : Type 0} (s : Ghosts V) (laws : Lawful s) where
+module _ {V : Type 0} (s : Ghosts V) (laws : HasLaws s) where
   -- what is changed by one thing and then another is changed by both
   pub lowered_none : (by : ℕ → ℕ → V → Type 0) (xs : List V) (ns : List ℕ) → Lowered s by xs xs ns ns
   lowered_none by xs ns = record { at_most = λ u l. laws.irrefl (at s xs u); reached = λ u l. inl (refl, refl) }

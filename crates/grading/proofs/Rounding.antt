@@ -2,8 +2,7 @@
 use Rattle.std.proofs.Common.{◌≡◌, ℕ, ◌<◌, Bool, true, false, ◌||◌, List, length, get_or, sym, ap, ◌∙◌, subst, inl, inr, ⊎_elim}
 use Rattle.model.specs.Sets.{has}
 use Rattle.scale.specs.declared.scale.Scale.{Ghosts}
-use Rattle.scale.specs.Scales.{Lawful}
-use Rattle.scale.proofs.Order.{le_trans, by_bool}
+use Rattle.scale.proofs.Order.{HasLaws, le_trans, by_bool}
 use Rattle.grading.specs.declared.problem.Problem.{Problem}
 use Rattle.grading.specs.Graphs.{graph_marks, graph_hops}
 use Rattle.grading.specs.Problems.{at, problem_steps}
@@ -11,7 +10,7 @@ use Rattle.grading.specs.Rising.{Found, Ordered}
 use Rattle.grading.specs.Relaxing.{Lowered, by_steps, Below, Quiet, Rounded}
 use Rattle.grading.proofs.Lowering.{lowered_both}
 
-module _ {V : Type 0} (s : Ghosts V) (laws : Lawful s) (p : Problem V) where
+module _ {V : Type 0} (s : Ghosts V) (laws : HasLaws s) (p : Problem V) where
   -- a step with its value, by a mark where there is one
   abbrev Step : List V → ℕ → ℕ → V → Type 0
   Step from u v z = (v < 64) × ((problem_steps p).has u v ≡ true) × (z ≡ s.plus ((problem_steps p).cost u v) (at s from v))

@@ -3,8 +3,7 @@ use Rattle.std.proofs.Common.{◌≡◌, ℕ, suc, ◌+◌, ◌-◌, ◌<◌, �
 use Rattle.model.specs.Sets.{has}
 use Rattle.model.proofs.Digits.{has_all}
 use Rattle.scale.specs.declared.scale.Scale.{Ghosts}
-use Rattle.scale.specs.Scales.{Lawful}
-use Rattle.scale.proofs.Order.{clash}
+use Rattle.scale.proofs.Order.{HasLaws, clash}
 use Rattle.paths.specs.Steps.{Steps}
 use Rattle.paths.specs.Levels.{level}
 use Rattle.paths.specs.Walks.{Walk}
@@ -28,7 +27,7 @@ pub record Running {V : Type 0} (s : Ghosts V) (steps : Steps V) (k : ℕ) (old 
   pub nexts : (j : ℕ) → j < k → NextRow s steps ns j
   pub quiet : Quiet s steps fell (at s old)
 
-module _ {V : Type 0} (s : Ghosts V) (laws : Lawful s) (p : Problem V) where
+module _ {V : Type 0} (s : Ghosts V) (laws : HasLaws s) (p : Problem V) where
   abbrev steps : Steps V
   steps = problem_steps p
 

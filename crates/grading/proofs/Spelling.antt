@@ -5,7 +5,7 @@ use Rattle.model.specs.declared.thresholds.Thresholds.{Thresholds}
 use Rattle.model.specs.Views.{View, is_mark}
 use Rattle.model.proofs.Steps.{step_stands, step_head}
 use Rattle.scale.specs.declared.scale.Scale.{Ghosts}
-use Rattle.scale.specs.Scales.{Lawful}
+use Rattle.scale.proofs.Order.{HasLaws}
 use Rattle.paths.specs.Steps.{value, view_steps, Meets}
 use Rattle.paths.specs.Walks.{Walk}
 use Rattle.paths.specs.Bests.{Best, Forbids}
@@ -31,7 +31,7 @@ enough_parts a b c d e =
     let r = and_parts (leb 4160 c) (leb 4160 d) q.1 in
     record { grades_64 = leb-true 64 a p.0; ring_64 = leb-true 64 b q.0; values_4160 = leb-true 4160 c r.0; bytes_4160 = leb-true 4160 d r.1 }
 
-module _ {V : Type 0} (s : Ghosts V) (laws : Lawful s) (w : View) (t : Thresholds) (p : Problem V) (spells : Spells s w t p) where
+module _ {V : Type 0} (s : Ghosts V) (laws : HasLaws s) (w : View) (t : Thresholds) (p : Problem V) (spells : Spells s w t p) where
   pub same_steps : SameSteps (problem_steps p) (view_steps s w t)
   same_steps = record {
     has = λ u v a b. ap₂ (λ (x y : Bool). x || y) (spells.draws.marks u v a b) (spells.draws.hops u v a b);

@@ -2,8 +2,7 @@
 use Rattle.std.proofs.Common.{◌≡◌, ℕ, zero, suc, ◌+◌, ◌<◌, ◌≤◌, Bool, true, false, cond, ◌&&◌, ◌⊎◌, sym, refl, ap, ◌∙◌, subst, inl, inr, ⊎_elim, add-zero, add-suc, arith}
 use Rattle.std.proofs.lemmas.Bool.{cases_eq}
 use Rattle.scale.specs.declared.scale.Scale.{Ghosts}
-use Rattle.scale.specs.Scales.{Lawful}
-use Rattle.scale.proofs.Order.{by_bool, proved, clash, asym, lt_le_trans, le_trans, falls}
+use Rattle.scale.proofs.Order.{HasLaws, by_bool, proved, clash, asym, lt_le_trans, le_trans, falls}
 use Rattle.paths.specs.Steps.{Steps}
 use Rattle.paths.specs.Levels.{pick, reach, level}
 use Rattle.paths.specs.Walks.{total}
@@ -16,7 +15,7 @@ last v n h = ⊎_elim (λ (e : v ≡ n). inl e) (λ (ne : v ≡ n → ⊥). inr 
 abbrev pub down : {V : Type 0} → Steps V → (ℕ → ℕ) → ℕ → ℕ → V
 down steps y a j = steps.cost (y (suc (a + j))) (y (a + j))
 
-module _ {V : Type 0} (s : Ghosts V) (laws : Lawful s) where
+module _ {V : Type 0} (s : Ghosts V) (laws : HasLaws s) where
   abbrev nothing : V
   nothing = s.nothing
 

@@ -2,14 +2,14 @@
 use Rattle.std.proofs.Common.{◌≡◌, ℕ, suc, ◌+◌, ◌-◌, ◌<◌, ◌≤◌, true, List, [], length, get_or, set, sym, refl, ap, ◌∙◌, subst, subst₂, ⊎_elim, add-one, arith, get_or-set_other, get_or-set_same}
 use Rattle.std.proofs.lemmas.Bool.{cases_eq}
 use Rattle.scale.specs.declared.scale.Scale.{Ghosts}
-use Rattle.scale.specs.Scales.{Lawful}
+use Rattle.scale.proofs.Order.{HasLaws}
 use Rattle.paths.specs.Steps.{Steps}
 use Rattle.paths.specs.Levels.{level}
 use Rattle.paths.specs.Walks.{total}
 use Rattle.paths.specs.Descents.{Falls, Down, Leads, Walked, Repeat, Loop}
 use Rattle.paths.proofs.Layers.{fell_again, ring_below, down}
 
-module _ {V : Type 0} (s : Ghosts V) (laws : Lawful s) (steps : Steps V) where
+module _ {V : Type 0} (s : Ghosts V) (laws : HasLaws s) (steps : Steps V) where
   -- one step further down: to the node that the layer was reached by, where the layer below fell too
   walk_down : (ys : List ℕ) (top k v : ℕ) → length ys ≡ 65 → top ≤ 64 → Walked s steps ys top (suc k) → (v < 64) × Down s steps k (get_or ys (suc k) 0) v → Walked s steps (set ys k v) top k
   walk_down ys top k v len room w step =

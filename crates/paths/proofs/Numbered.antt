@@ -11,7 +11,7 @@ use Rattle.model.specs.Gradings.{Loose, ForbidsLoose}
 use Rattle.model.proofs.Steps.{hop_turned, hop_unmarked, step_head}
 use Rattle.model.proofs.Forbids.{ring_forbids_loose}
 use Rattle.scale.specs.declared.scale.Scale.{Ghosts}
-use Rattle.scale.specs.Scales.{Lawful}
+use Rattle.scale.proofs.Order.{HasLaws}
 use Rattle.paths.specs.Steps.{value, view_steps}
 use Rattle.paths.specs.Walks.{Walk, stop, go, sum_round}
 use Rattle.paths.specs.Bests.{Best, Forbids}
@@ -51,7 +51,7 @@ times_neg d n =
     solve : (x y z : ℤ) → x ≡ z → x +ℤ y ≡ pos 0 → y ≡ neg_ℤ z
     solve x y z e f = omega (arith, ints)
 
-module _ {V : Type 0} (s : Ghosts V) (laws : Lawful s) (t : Thresholds) (number : V → ℤ) (num : Numbered s t number) (w : View) where
+module _ {V : Type 0} (s : Ghosts V) (laws : HasLaws s) (t : Thresholds) (number : V → ℤ) (num : Numbered s t number) (w : View) where
   -- a step's value as a number
   number_mark : (u v : ℕ) → is_mark w u v ≡ true → number (value s w t u v) ≡ neg_ℤ (pos t.t1)
   number_mark u v e = ap (λ (b : Bool). number (cond b (s.mark t) (s.hop t))) e ∙ num.mark

@@ -10,10 +10,11 @@ use Rattle.model.specs.Gradings.{ForbidsStrict}
 use Rattle.model.proofs.Steps.{clash, hop_turned, hop_unmarked, step_stands, step_head}
 use Rattle.model.proofs.Forbids.{ring_forbids_strict}
 use Rattle.scale.specs.declared.scale.Scale.{Ghosts}
+use Rattle.scale.proofs.Order.{HasLaws}
 use Rattle.scale.specs.declared.whole.Whole.{Whole}
 use Rattle.scale.specs.declared.unit.Unit.{Unit as Units}
 use Rattle.scale.specs.declared.pair.Pair.{Pair}
-use Rattle.scale.specs.Scales.{Lawful, whole_scale, unit_scale, pair_scale}
+use Rattle.scale.specs.Scales.{whole_scale, unit_scale, pair_scale}
 use Rattle.scale.specs.Numbers.{whole_laws, unit_laws}
 use Rattle.scale.specs.PairLaws.{pair_laws}
 use Rattle.paths.specs.Steps.{view_steps}
@@ -31,7 +32,7 @@ mark = pairs.mark
 abbrev hop : Thresholds → Pair Whole Units
 hop = pairs.hop
 
-pub lawful : Lawful (pair_scale whole_scale unit_scale)
+pub lawful : HasLaws (pair_scale whole_scale unit_scale)
 lawful = pair_laws whole_laws unit_laws
 
 -- ---- the order of pairs

@@ -7,8 +7,7 @@ use Rattle.model.proofs.Sums.{sum_same}
 use Rattle.model.proofs.Steps.{other}
 use Rattle.model.proofs.Rounds.{round_below, round_steps, round_end}
 use Rattle.scale.specs.declared.scale.Scale.{Ghosts}
-use Rattle.scale.specs.Scales.{Lawful}
-use Rattle.scale.proofs.Order.{clash, le_trans, le_plus, lt_plus}
+use Rattle.scale.proofs.Order.{HasLaws, clash, le_trans, le_plus, lt_plus}
 use Rattle.paths.specs.Steps.{value, view_steps, Meets}
 use Rattle.paths.specs.Walks.{total, sum_round}
 use Rattle.paths.specs.Statements.{BelowForbids}
@@ -18,7 +17,7 @@ unfoldable pub times : {V : Type 0} → Ghosts V → ℕ → V → V
 times s zero a = s.nothing
 times s (suc n) a = s.plus a (times s n a)
 
-module _ {V : Type 0} (s : Ghosts V) (laws : Lawful s) where
+module _ {V : Type 0} (s : Ghosts V) (laws : HasLaws s) where
   abbrev plus : V → V → V
   plus = s.plus
 

@@ -2,8 +2,7 @@
 use Rattle.std.proofs.Common.{◌≡◌, ℕ, zero, suc, ◌+◌, ◌<◌, ◌≤◌, sym, ◌∙◌, subst, one-add, arith}
 use Rattle.model.proofs.Steps.{step_head}
 use Rattle.scale.specs.declared.scale.Scale.{Ghosts}
-use Rattle.scale.specs.Scales.{Lawful}
-use Rattle.scale.proofs.Order.{le_trans, le_plus}
+use Rattle.scale.proofs.Order.{HasLaws, le_trans, le_plus}
 use Rattle.paths.specs.Steps.{Steps, view_steps}
 use Rattle.paths.specs.Levels.{level}
 use Rattle.paths.specs.Walks.{Walk, stop, go}
@@ -22,7 +21,7 @@ module _ {V : Type 0} (s : Ghosts V) (steps : Steps V) where
   walk_longer k (suc d) u z w = subst (λ (n : ℕ). Walk s steps n u z) (omega arith) (walk_more (d + k) u z (walk_longer k d u z w))
 
 -- a layer is the sum of a walk: none, that of the layer before, or one step and that of the layer before
-module _ {V : Type 0} (s : Ghosts V) (laws : Lawful s) (steps : Steps V) where
+module _ {V : Type 0} (s : Ghosts V) (laws : HasLaws s) (steps : Steps V) where
   pub level_walk : (k u : ℕ) → Walk s steps k u (level s steps 64 k u)
   level_walk zero u = subst (Walk s steps 0 u) (sym (level_none s steps 64 u)) stop
   level_walk (suc k) u = subst (Walk s steps (suc k) u) (sym (level_more s steps 64 k u))
@@ -49,7 +48,7 @@ module _ {V : Type 0} (s : Ghosts V) (a b : Steps V) (same : SameSteps a b) wher
       subst (λ (c : V). Walk s b (suc k) u (s.plus c y)) (sym (same.cost u v h l)) (go v l (sym (same.has u v h l) ∙ is) (walk_same k v y l w))
 
 -- By induction on the walk: at its end p is not above nothing, and each step back adds the same to both sides.
-module _ {V : Type 0} (s : Ghosts V) (laws : Lawful s) where
+module _ {V : Type 0} (s : Ghosts V) (laws : HasLaws s) where
   pub walks_bound : WalksBound s
   walks_bound w t p meets low k u z h st stop = low u h st
   walks_bound w t p meets low (suc k) u z h st (go {z = y} v l is walk) =

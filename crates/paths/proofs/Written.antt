@@ -8,7 +8,7 @@ use Rattle.model.proofs.Sums.{sum_same}
 use Rattle.model.proofs.Steps.{step_apart, step_stands, other}
 use Rattle.model.proofs.Rounds.{turned, round_steps}
 use Rattle.scale.specs.declared.scale.Scale.{Ghosts}
-use Rattle.scale.specs.Scales.{Lawful}
+use Rattle.scale.proofs.Order.{HasLaws}
 use Rattle.paths.specs.Steps.{Steps, view_steps}
 use Rattle.paths.specs.Walks.{total, sum_round}
 use Rattle.paths.specs.Bests.{Forbids}
@@ -23,7 +23,7 @@ unfolding total
 total_same s f h zero e = mathlib.Core.Path.refl
 total_same s f h (suc n) e = ap₂ s.plus (e n (omega arith)) (total_same s f h n (λ i l. e i (omega arith)))
 
-module _ {V : Type 0} (s : Ghosts V) (laws : Lawful s) (steps : Steps V) (w : View) (t : Thresholds) (same : SameSteps steps (view_steps s w t))
+module _ {V : Type 0} (s : Ghosts V) (laws : HasLaws s) (steps : Steps V) (w : View) (t : Thresholds) (same : SameSteps steps (view_steps s w t))
     (ys : List ℕ) (low high k : ℕ) (high_is : low + k ≡ high) (loop : Loop s steps ys low high) where
   some : 0 < k
   some = let o : low < high = loop.again.order in omega arith
@@ -118,7 +118,7 @@ module _ {V : Type 0} (s : Ghosts V) (laws : Lawful s) (steps : Steps V) (w : Vi
     turned_forbids below = record { ring = turned_ring; below = subst (λ (z : V). s.less z s.nothing ≡ true) (sym same_sum) below }
 
 -- what was written is a ring that forbids
-pub forbids_made : {V : Type 0} (s : Ghosts V) → Lawful s → (steps : Steps V) (w : View) (t : Thresholds) → SameSteps steps (view_steps s w t)
+pub forbids_made : {V : Type 0} (s : Ghosts V) → HasLaws s → (steps : Steps V) (w : View) (t : Thresholds) → SameSteps steps (view_steps s w t)
     → (ys xs : List ℕ) (low high : ℕ) → Loop s steps ys low high → Written ys low high xs → 64 ≤ length xs → Forbids s w t (take (high - low) xs)
 forbids_made s laws steps w t same ys xs low high loop written room =
     let o : low < high = loop.again.order in

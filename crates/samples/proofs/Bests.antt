@@ -6,7 +6,7 @@ use Rattle.model.specs.Limits.{within_limits}
 use Rattle.model.specs.Views.{View, is_mark, is_step}
 use Rattle.model.proofs.Steps.{step_stands, step_head}
 use Rattle.scale.specs.declared.scale.Scale.{Ghosts}
-use Rattle.scale.specs.Scales.{Lawful}
+use Rattle.scale.proofs.Order.{HasLaws}
 use Rattle.paths.specs.Steps.{value, view_steps}
 use Rattle.paths.specs.Walks.{Walk, stop, go}
 use Rattle.paths.specs.Bests.{Best}
@@ -14,7 +14,7 @@ use Rattle.paths.proofs.Walking.{walk_longer, walk_extent, walks_bound}
 use Rattle.samples.proofs.Tests.{below, below_at, below_two, below_two_at, implies, implied, not_true}
 use Rattle.samples.proofs.Covers.{Covers}
 
-module _ {V : Type 0} (s : Ghosts V) (laws : Lawful s) (w : View) (t : Thresholds) (g : ℕ → V) (next : List ℕ) where
+module _ {V : Type 0} (s : Ghosts V) (laws : HasLaws s) (w : View) (t : Thresholds) (g : ℕ → V) (next : List ℕ) where
   -- neither is less
   abbrev equal : V → V → Bool
   equal a b = not (s.less a b) && not (s.less b a)

@@ -4,8 +4,9 @@ use borrow.Author.Differences.{ints}
 use Rattle.model.specs.declared.thresholds.Thresholds.{Thresholds}
 use Rattle.model.specs.Views.{View}
 use Rattle.scale.specs.declared.scale.Scale.{Ghosts}
+use Rattle.scale.proofs.Order.{HasLaws}
 use Rattle.scale.specs.declared.whole.Whole.{Whole}
-use Rattle.scale.specs.Scales.{Lawful, whole_scale, unit_scale, pair_scale}
+use Rattle.scale.specs.Scales.{whole_scale, unit_scale, pair_scale}
 use Rattle.scale.specs.Numbers.{whole_laws}
 use Rattle.scale.specs.Wholes.{of_whole}
 use Rattle.paths.specs.Bests.{Best}
@@ -25,7 +26,7 @@ same_loose w t y z a b u l st = equal (y u) (z u) (b.highest 1 y a.loose a.low u
     equal p q h k = omega (arith, ints)
 
 -- neither of two best values is less
-same_best : {V : Type 0} (s : Ghosts V) (laws : Lawful s) (w : View) (t : Thresholds) (y z : ℕ → V) → Best s w t y → Best s w t z
+same_best : {V : Type 0} (s : Ghosts V) (laws : HasLaws s) (w : View) (t : Thresholds) (y z : ℕ → V) → Best s w t y → Best s w t z
     → (u : ℕ) → u < 64 → w.stands u ≡ true → y u ≡ z u
 same_best s laws w t y z a b u l st = laws.total (y u) (z u) (a.greatest z b.meets b.low u l st) (b.greatest y a.meets a.low u l st)
 

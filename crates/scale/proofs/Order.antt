@@ -1,10 +1,14 @@
 -- What the laws of a scale give of its order. Assumes nothing.
 use Rattle.std.proofs.Common.{◌≡◌, Bool, true, false, sym, refl, ap, ◌∙◌, subst, ap₂}
 use Rattle.scale.specs.declared.scale.Scale.{Ghosts}
-use Rattle.scale.specs.Scales.{Lawful}
+use Rattle.scale.specs.Laws.{Laws}
 pub use Rattle.std.proofs.lemmas.Bool.{true_from_ne_false as proved}
 use Rattle.std.proofs.lemmas.Bool.{false_from_ne_true}
 pub use Rattle.model.proofs.Steps.{clash}
+
+-- the laws of a scale that is given by the ghost members of its trait
+abbrev pub HasLaws : {V : Type 0} → Ghosts V → Type 0
+HasLaws s = Laws s.nothing s.plus s.sum s.less s.mark s.hop s.extent
 
 pub by_bool : {P : Type 0} (b : Bool) → (b ≡ true → P) → (b ≡ false → P) → P
 by_bool {P} b f g = go b refl
@@ -13,7 +17,7 @@ by_bool {P} b f g = go b refl
     go true e = f e
     go false e = g e
 
-module _ {V : Type 0} (s : Ghosts V) (laws : Lawful s) where
+module _ {V : Type 0} (s : Ghosts V) (laws : HasLaws s) where
   abbrev nothing : V
   nothing = s.nothing
 

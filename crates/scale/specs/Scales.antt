@@ -1,16 +1,12 @@
--- A scale of any kind, by the ghost members of its trait, and the three scales. Assumes nothing.
+-- The three scales, each by the ghost members of its trait. Assumes nothing.
 use Rattle.std.specs.Prelude.{pos}
 use Rattle.scale.specs.declared.scale.Scale.{Ghosts}
 use Rattle.scale.specs.declared.whole.Whole.{Whole}
 use Rattle.scale.specs.declared.unit.Unit.{Unit as Units}
 use Rattle.scale.specs.declared.pair.Pair.{Pair}
-use Rattle.scale.specs.Laws.{Laws}
 use Rattle.scale.specs.Wholes.{of_whole, whole_plus, whole_sum, whole_less, whole_mark, whole_hop, WholeExtent}
 use Rattle.scale.specs.Units.{of_unit, unit_plus, unit_sum, unit_less, unit_mark, unit_hop, UnitExtent}
 use Rattle.scale.specs.Pairs.{both, pair_plus, pair_less, pair_of, PairExtent}
-
-abbrev pub Lawful : {V : Type 0} → Ghosts V → Type 0
-Lawful s = Laws s.nothing s.plus s.sum s.less s.mark s.hop s.extent
 
 abbrev pub whole_scale : Ghosts Whole
 whole_scale = record { nothing = of_whole (pos 0); plus = whole_plus; sum = whole_sum; less = whole_less; mark = whole_mark; hop = whole_hop; extent = WholeExtent }
