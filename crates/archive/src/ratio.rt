@@ -7,7 +7,7 @@ ghost use Rattle.archive.specs.Told.{RatioTold};
 use crate::answer::Answer;
 use crate::listing::list_grades;
 use crate::refusal::refusal;
-use grading::memory::Memory;
+use grading::memory::{Memory, Room};
 use grading::ratio::least_ratio;
 use scale::whole::Whole;
 use sheet::meaning::Sheet;
@@ -40,16 +40,5 @@ fn ratio_in<S: Sheet>(
 pub fn ratio_answer<S: Sheet>(heap: Global, sheet: &S) -> Result<Answer, AllocError>
     ensures { IfOk result (RatioTold (view_of S.Sheet sheet.now)) }
 {
-    let nothing = Whole { value: 0 };
-    let mut grades = [nothing; 64];
-    let mut ring = [0; 64];
-    let mut values = [nothing; 4160];
-    let mut bytes = [0; 4160];
-    let mut memory = Memory {
-        grades: &mut grades,
-        ring: &mut ring,
-        values: &mut values,
-        bytes: &mut bytes,
-    };
-    ratio_in(heap, sheet, &mut memory)
+    ratio_in(heap, sheet, &mut Room::new().lend())
 }

@@ -9,7 +9,7 @@ ghost use Rattle.script.specs.Makes.{new_sheet};
 
 use crate::refusal::Refusal;
 use archive::replay::replay;
-use grading::memory::Memory;
+use grading::memory::{Memory, Room};
 use layers::folder::Folder;
 use listsheet::ListSheet;
 use model::decline::Decline;
@@ -40,18 +40,7 @@ fn release_in<S: Sheet>(
 fn release_of<S: Sheet>(heap: Global, folder: &Folder<S>) -> Result<Vec<u8>, Refusal>
     ensures { Handed (view_in (seen (account_of S.Sheet folder.now))) result }
 {
-    let nothing = Whole { value: 0 };
-    let mut grades = [nothing; 64];
-    let mut ring = [0; 64];
-    let mut values = [nothing; 4160];
-    let mut bytes = [0; 4160];
-    let mut memory = Memory {
-        grades: &mut grades,
-        ring: &mut ring,
-        values: &mut values,
-        bytes: &mut bytes,
-    };
-    release_in(heap, folder, &mut memory, &mut [0; 8453])
+    release_in(heap, folder, &mut Room::new().lend(), &mut [0; 8453])
 }
 
 // The release after the lines, in a new folder over the sheet.

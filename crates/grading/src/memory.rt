@@ -1,8 +1,9 @@
 // The memory that a caller brings to a grading.
-ghost use Rattle.std.specs.Prelude.{◌≡◌, ◌≤◌, length, take};
+ghost use Rattle.std.specs.Prelude.{◌≡◌, ◌≤◌, true, length, take};
 ghost use Rattle.grading.specs.Outcomes.{brought, suffices};
 
 use crate::forbidden::Forbidden;
+use scale::whole::Whole;
 
 // 64 places for grades, 64 bytes for a ring, and scratch of 4,160 values and 4,160 bytes. It may be more; what is more is kept.
 // Calls inside ask that each part has its size, by a clause: a type for that would be a second struct of the same four parts. And each
@@ -32,5 +33,43 @@ impl<V> Memory<'_, V> {
         ensures { result.now ≡ take found.ring self.now.ring.now }
     {
         &self.ring[..found.ring as usize]
+    }
+}
+
+// Memory of just the sizes, for grades in whole numbers. What it holds is free, as in memory that a caller brings.
+#[derive(Drop)]
+pub struct Room {
+    grades: [Whole; 64],
+    ring: [u8; 64],
+    values: [Whole; 4160],
+    bytes: [u8; 4160],
+}
+
+impl Room {
+    pub fn new() -> Room {
+        let nothing = Whole { value: 0 };
+        Room {
+            grades: [nothing; 64],
+            ring: [0; 64],
+            values: [nothing; 4160],
+            bytes: [0; 4160],
+        }
+    }
+
+    pub fn lend(&mut self) -> Memory<'_, Whole>
+        ensures { suffices (brought result) ≡ true }
+    {
+        let Room {
+            grades,
+            ring,
+            values,
+            bytes,
+        } = self;
+        Memory {
+            grades,
+            ring,
+            values,
+            bytes,
+        }
     }
 }
