@@ -1,6 +1,7 @@
 // The memory that a caller brings to a grading.
-ghost use Rattle.std.specs.Prelude.{◌≡◌, ◌≤◌, true, length, take};
-ghost use Rattle.grading.specs.Outcomes.{brought, suffices};
+ghost use Rattle.std.specs.Prelude.{◌≡◌, ◌≤◌, true, length, take, replicate, pos};
+ghost use Rattle.scale.specs.Wholes.{of_whole};
+ghost use Rattle.grading.specs.Outcomes.{memory, brought, suffices};
 
 use crate::forbidden::Forbidden;
 use scale::whole::Whole;
@@ -36,7 +37,7 @@ impl<V> Memory<'_, V> {
     }
 }
 
-// Memory of just the sizes, for grades in whole numbers. What it holds is free, as in memory that a caller brings.
+// Memory of just the sizes, for grades in whole numbers.
 #[derive(Drop)]
 pub struct Room {
     grades: [Whole; 64],
@@ -46,7 +47,10 @@ pub struct Room {
 }
 
 impl Room {
-    pub fn new() -> Room {
+    // All places hold nothing.
+    pub fn new() -> Room
+        ensures { memory result.grades result.ring result.values result.bytes ≡ memory (replicate 64 (of_whole (pos 0))) (replicate 64 0) (replicate 4160 (of_whole (pos 0))) (replicate 4160 0) }
+    {
         let nothing = Whole { value: 0 };
         Room {
             grades: [nothing; 64],
@@ -56,8 +60,10 @@ impl Room {
         }
     }
 
+    // What it holds is lent, and is enough.
     pub fn lend(&mut self) -> Memory<'_, Whole>
-        ensures { suffices (brought result) ≡ true }
+        ensures lent { brought result ≡ memory self.old.grades self.old.ring self.old.values self.old.bytes }
+        ensures enough { suffices (brought result) ≡ true }
     {
         let Room {
             grades,
