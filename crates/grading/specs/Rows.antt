@@ -14,7 +14,7 @@ both_in set u v = has set u && (has set v && not (u == v))
 abbrev pub unmarked_in : List ℕ → ℕ → ℕ → Bool
 unmarked_in rows u v = not (has (slice_index rows v) u) && not (has (slice_index rows u) v)
 
--- and both are in the set
+-- two different numbers of the set, and no row has a bit from one to the other
 abbrev pub unmarked_from : ℕ → List ℕ → ℕ → ℕ → Bool
 unmarked_from set rows u v = both_in set u v && unmarked_in rows u v
 

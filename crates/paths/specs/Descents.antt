@@ -19,7 +19,7 @@ Down s steps j a b = (steps.has a b ≡ true)
 abbrev pub Leads : {V : Type 0} → Ghosts V → Steps V → ℕ → (ℕ → ℕ) → Type 0
 Leads s steps j next = (u : ℕ) → u < 64 → Falls s steps j u → (next u < 64) × Down s steps j u (next u)
 
--- the places of ys from t up to top are the nodes of a walk down from the layer top to the layer t, and the layer t fell too
+-- the places of ys from t up to top are the nodes of a walk down from the layer top to the layer t; and the layer t fell too, where one is before it
 pub record Walked {V : Type 0} (s : Ghosts V) (steps : Steps V) (ys : List ℕ) (top t : ℕ) : Type 0 where
   pub under : t ≤ top
   pub nodes : (j : ℕ) → t ≤ j → j ≤ top → slice_index ys j < 64
