@@ -53,7 +53,7 @@ module _ {V : Type 0} (s : Ghosts V) (laws : HasLaws s) (p : Problem V) where
         extents = λ u l. subst (λ (z : V). s.extent z 64) (sym (run.layer u l)) (walk_extent s laws steps (cost_extent c) 64 u (level s steps 64 k u) (omega arith) (walk_64 k u (omega arith)));
       }
 
-  -- at first every step may fall
+  -- at first the set has every record, so no step has to be met
   pub running_none : (old : List V) (ns : List (List ℕ)) → ((u : ℕ) → u < 64 → at s old u ≡ s.nothing) → Running s steps 0 old ns 18446744073709551615
   running_none old ns f = record {
     early = omega arith;
