@@ -23,7 +23,7 @@ unfoldable pub marks_below : View → ℕ → List (ℕ × ℕ)
 marks_below w zero = []
 marks_below w (suc n) = marks_below w n ++ marks_from w n 64
 
--- how far below 0 the grades of the records below n are
+-- minus the grades of the standing records below n: none of them is above 0
 unfoldable pub depths_below : View → (ℕ → ℤ) → ℕ → List ℕ
 depths_below w g zero = []
 depths_below w g (suc n) = depths_below w g n ++ one_if (w.stands n) (unsigned_abs (g n))

@@ -1,5 +1,5 @@
 -- The layers: each is at most the one before, and what a fall from one to the next tells. Assumes nothing.
-use Rattle.std.proofs.Common.{◌≡◌, ℕ, zero, suc, ◌+◌, ◌<◌, ◌≤◌, Bool, true, false, cond, ◌&&◌, ◌⊎◌, sym, refl, ap, ◌∙◌, subst, inl, inr, ⊎_elim, add-zero, add-suc, arith}
+use Rattle.std.proofs.Common.{◌≡◌, ℕ, zero, suc, ◌+◌, ◌<◌, ◌≤◌, Bool, true, false, cond, ◌⊎◌, sym, refl, ap, ◌∙◌, subst, inl, inr, ⊎_elim, add-zero, add-suc, arith}
 use Rattle.std.proofs.lemmas.Bool.{cases_eq}
 use Rattle.scale.specs.declared.scale.Scale.{Ghosts}
 use Rattle.scale.proofs.Order.{HasLaws, by_bool, proved, clash, asym, lt_le_trans, le_trans, falls}

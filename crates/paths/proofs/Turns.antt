@@ -1,17 +1,8 @@
--- One turn of the loop over the nodes, and of the loop over the layers. Assumes nothing.
-use Rattle.std.proofs.Common.{◌≡◌, ℕ, zero, suc, ◌+◌, ◌<◌, Bool, cond, ◌&&◌, refl, ap₂, add-one, arith}
+-- Layers, one from the one before: nothing at first, and then what is reached from it. Assumes nothing.
+use Rattle.std.proofs.Common.{◌≡◌, ℕ, zero, suc, ◌<◌, refl, ap₂, arith}
 use Rattle.scale.specs.declared.scale.Scale.{Ghosts}
 use Rattle.paths.specs.Steps.{Steps}
 use Rattle.paths.specs.Levels.{pick, reach, level}
-
-module _ {V : Type 0} (s : Ghosts V) (steps : Steps V) (prev : ℕ → V) (u : ℕ) where
-  pub reach_none : reach s steps prev u 0 ≡ prev u
-  unfolding reach
-  reach_none = refl
-
-  pub reach_more : (v : ℕ) → reach s steps prev u (v + 1) ≡ pick s (steps.has u v) (s.plus (steps.cost u v) (prev v)) (reach s steps prev u v)
-  unfolding reach
-  reach_more v = rw (add-one v)
 
 -- what is reached goes by prev at u and at the nodes below n alone
 module _ {V : Type 0} (s : Ghosts V) (steps : Steps V) (prev prev' : ℕ → V) (u : ℕ) where

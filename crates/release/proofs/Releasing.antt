@@ -10,7 +10,7 @@ use Rattle.scale.specs.declared.whole.Whole.{Whole}
 use Rattle.grading.specs.declared.ratio.Ratio.{Ratio}
 use Rattle.grading.specs.Outcomes.{Memory, suffices, Declined}
 use Rattle.grading.specs.Ratios.{RatioGiven, RatioFound, RatioOrCircle, valueless}
-use Rattle.release.specs.Grades.{Short}
+use Rattle.release.specs.Grades.{Lows}
 use Rattle.release.specs.Writing.{Puts, Writes, found, circled, MemoryRefused, Released, release_of}
 
 -- a ring of at most 64 records has at most 64 marks and 64 hops; and 0 to 1 has no more
@@ -29,16 +29,16 @@ module _ (w : View) (before after : Memory Whole) where
       go true s = s
       go false s = absurd (omega (arith, s.answer))
 
-  -- Grades of a least ratio are short: their size is at most 64 steps of t1 = h or t2 = e,
-  -- and e and h are counted on a ring of at most 64 records.
-  pub short_given : (r : Ratio) → RatioGiven w r before after → Short w after.grades
-  short_given r given u l s =
+  -- Grades of a least ratio are not above 0, and their size is at most 64 steps of t1 = h or t2 = e,
+  -- where e and h are counted on a ring of at most 64 records.
+  pub low_given : (r : Ratio) → RatioGiven w r before after → Lows w after.grades
+  low_given r given u l s =
       let long : length (take r.ring after.ring) ≤ 64 = omega (arith, length-take r.ring after.ring, min-le_left r.ring (length after.ring), given.short) in
       let counts = few w r.marks r.hops (take r.ring after.ring) long given.least.shown in
-      omega (arith, given.graded.best.size u l s, max-le counts.1 counts.0)
+      record { none_above = given.graded.best.low u l s; short = omega (arith, given.graded.best.size u l s, max-le counts.1 counts.0) }
 
-  pub short : (r : Ratio) → RatioFound w before after (Ok r) → Short w after.grades
-  short r o = short_given r (given_of r o)
+  pub low : (r : Ratio) → RatioFound w before after (Ok r) → Lows w after.grades
+  low r o = low_given r (given_of r o)
 
   -- a least ratio, and its release put out or not
   pub released : (r : Ratio) {out_before out_after : List ℕ} {a : Result ℕ Decline} → RatioFound w before after (Ok r)

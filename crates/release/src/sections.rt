@@ -6,7 +6,7 @@ ghost use Rattle.form.specs.Laid.{of_pair, of_two};
 ghost use Rattle.sheet.specs.Views.{view_of};
 ghost use Rattle.release.specs.Drafts.{Adds, DraftOf};
 ghost use Rattle.form.specs.Sections.{records_below, marks_from, marks_below, depths_below, finding};
-ghost use Rattle.release.specs.Grades.{grade_number, Short};
+ghost use Rattle.release.specs.Grades.{grade_number, Low, Lows};
 
 use crate::count::{count_marks, count_records};
 use crate::draft::{Draft, put_two};
@@ -49,13 +49,13 @@ fn put_marks<S: Sheet>(draft: &mut Draft, sheet: &S)
     }
 }
 
-// How far below 0 a grade is: a grade of a least ratio has a size of at most 4,096.
+// Minus a grade: no grade of a least ratio is above 0, or further than 4,096 below it.
 fn put_depth(draft: &mut Draft, grade: Whole)
     requires room { array_vec_len draft.old + 2 ≤ 8453 }
-    requires short { unsigned_abs grade.value ≤ 4096 }
+    requires low { Low grade.value }
     ensures { Adds draft.old (of_two (unsigned_abs grade.value)) draft.new }
 {
-    put_two(draft, grade.value.unsigned_abs() as u16);
+    put_two(draft, (-grade.value) as u16);
 }
 
 // Minus the grades of the standing records. That these are short is asked in clauses: it is known of what the least ratio gives, and a
@@ -63,7 +63,7 @@ fn put_depth(draft: &mut Draft, grade: Whole)
 fn put_depths<S: Sheet>(draft: &mut Draft, sheet: &S, grades: &[Whole])
     requires room { array_vec_len draft.old + 128 ≤ 8453 }
     requires grades { 64 ≤ length grades.now }
-    requires short { Short (view_of S.Sheet sheet.now) grades.now }
+    requires low { Lows (view_of S.Sheet sheet.now) grades.now }
     ensures adds { Adds draft.old (flat_map of_two (depths_below (view_of S.Sheet sheet.now) (grade_number grades.now) 64)) draft.new }
     ensures within { array_vec_len draft.new ≤ array_vec_len draft.old + 128 }
 {
@@ -85,7 +85,7 @@ fn put_ring(draft: &mut Draft, ring: &[u8])
 pub(crate) fn lay_out<S: Sheet>(sheet: &S, grades: &[Whole], ring: &[u8]) -> Draft
     requires ring { length ring.now ≤ 64 }
     requires grades { 64 ≤ length grades.now }
-    requires short { Short (view_of S.Sheet sheet.now) grades.now }
+    requires low { Lows (view_of S.Sheet sheet.now) grades.now }
     ensures { DraftOf (finding (view_of S.Sheet sheet.now) (grade_number grades.now) ring.now) result }
 {
     let records = count_records(sheet);

@@ -2,7 +2,7 @@
 ghost use Rattle.std.specs.Prelude.{◌≡◌, ◌≤◌, length};
 ghost use Rattle.sheet.specs.Views.{view_of};
 ghost use Rattle.grading.specs.Outcomes.{brought, SameLent};
-ghost use Rattle.release.specs.Grades.{Short};
+ghost use Rattle.release.specs.Grades.{Lows};
 ghost use Rattle.release.specs.Writing.{release_of, Puts, Released};
 
 use crate::draft::Draft;
@@ -26,7 +26,7 @@ fn put_out(draft: &Draft, out: &mut [u8]) -> Result<usize, Decline>
 
 // The release of what the least ratio found, while it stands in the memory.
 fn draft_of<S: Sheet>(sheet: &S, memory: &Memory<'_, Whole>, least: Ratio) -> Draft
-    requires short { Short (view_of S.Sheet sheet.now) (brought memory.now).grades }
+    requires low { Lows (view_of S.Sheet sheet.now) (brought memory.now).grades }
     requires grades { 64 ≤ length (brought memory.now).grades }
     requires ring { (least.ring ≤ 64) × (64 ≤ length (brought memory.now).ring) }
     ensures { result.items ≡ release_of (view_of S.Sheet sheet.now) (brought memory.now) least }

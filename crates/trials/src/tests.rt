@@ -1,4 +1,4 @@
-// What no script can show: memory that is too small, and a scale of one's own making.
+// What no script can show: memory that is too small, and grading on a pair of scales of one's own choosing.
 use archive::answer::Answer;
 use grading::grade::grade;
 use grading::kinds::graded;

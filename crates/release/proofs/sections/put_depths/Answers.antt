@@ -17,12 +17,12 @@ pub loop-u-init : goal.loop-u-init
 unfolding depths_below
 loop-u-init g c = (adds_none c.args.draft.now, omega arith)
 
-pub put_depth-requires-clause-short : goal.put_depth-requires-clause-short
-put_depth-requires-clause-short g c =
+pub put_depth-requires-clause-low : goal.put_depth-requires-clause-low
+put_depth-requires-clause-low g c =
     let grades = c.args.grades.now in
     let long : length (take 64 grades) ≡ 64 = length-take-le 64 grades c.requires.grades in
     let within : c.loop-u.u < 64 = omega arith in
-    rw (get_or-take 64 grades c.loop-u.u (of_whole (pos 0)) within) (c.requires.short c.loop-u.u within (sym (c.stands.ensures ∙ ap is_standing c.state.ensures) ∙ c.if-stands.true))
+    rw (get_or-take 64 grades c.loop-u.u (of_whole (pos 0)) within) (c.requires.low c.loop-u.u within (sym (c.stands.ensures ∙ ap is_standing c.state.ensures) ∙ c.if-stands.true))
 
 pub loop-u-preserved : goal.loop-u-preserved
 loop-u-preserved g c =

@@ -3,7 +3,7 @@ use Rattle.std.proofs.lemmas.Result.{err_from_is_err_and}
 use Rattle.sheet.specs.Views.{view_of}
 use Rattle.grading.specs.Outcomes.{brought}
 use Rattle.release.specs.Writing.{Puts}
-use Rattle.release.proofs.Releasing.{short, released, declined}
+use Rattle.release.proofs.Releasing.{low, released, declined}
 use Rattle.release.proofs.write.write_release.Goals as goal
 
 pub returns-in_err-least-clause-released : goal.returns-in_err-least-clause-released
@@ -11,9 +11,9 @@ returns-in_err-least-clause-released g c =
     let p = err_from_is_err_and c.from_residual.result c.from_residual.ensures.1 in
     rw (p.1, p.2) (declined (view_of g.S.Sheet c.args.sheet.now) (brought c.args.memory.now) (brought c.least_ratio.new.memory) c.in_err-least.field-0.0 c.args.out.now c.in_err-least.ensures.found)
 
-pub draft_of-requires-clause-short : goal.draft_of-requires-clause-short
-draft_of-requires-clause-short g c =
-    short (view_of g.S.Sheet c.args.sheet.now) (brought c.args.memory.now) (brought c.least_ratio.new.memory) c.in_ok-least.least c.in_ok-least.ensures.found
+pub draft_of-requires-clause-low : goal.draft_of-requires-clause-low
+draft_of-requires-clause-low g c =
+    low (view_of g.S.Sheet c.args.sheet.now) (brought c.args.memory.now) (brought c.least_ratio.new.memory) c.in_ok-least.least c.in_ok-least.ensures.found
 
 pub returns-clause-released : goal.returns-clause-released
 returns-clause-released g c =
