@@ -24,7 +24,7 @@ use Rattle.form.specs.Sections.{finding}
 use Rattle.form.proofs.Back.{reads_back}
 use Rattle.release.specs.Grades.{grade_number}
 use Rattle.release.specs.Writing.{release_of, Puts, put, Writes, found, MemoryRefused, Released}
-use Rattle.release.proofs.Releasing.{short_given}
+use Rattle.release.proofs.Releasing.{low_given}
 use Rattle.reading.specs.declared.release.Release.{Release}
 use Rattle.reading.specs.Told.{Told, Drawn, Holds, told_by}
 use Rattle.reading.specs.Reads.{told_in, HoldsOrNot, FormFirst, Reads}
@@ -66,7 +66,7 @@ module _ (w : View) (drawn : Drawn w) (before after : Memory Whole) where
     judged : (a : Result Release Decline) → Reads (laid_out c) a → HoldsOrNot (told_by c) a
     judged a reads =
         subst (λ (k : Got Contents). FormFirst k a)
-        (reads_back c (valid w drawn g xs (λ u l s. omega (arith, short_given w before after r given u l s)) (omega (arith, short)) (low given.least.shown))) reads
+        (reads_back c (valid w drawn g xs (λ u l s. omega (arith, low_given w before after r given u l s)) (omega (arith, short)) (low given.least.shown))) reads
 
     same_grade : (e h u : ℕ) → w.stands u ≡ true → (told_by c e h).grade u ≡ g u
     same_grade e h u s = grade_told w drawn g xs e h u s (given.graded.best.low u (drawn.below u s) s)
