@@ -1,5 +1,6 @@
 pub mod Collecting
 pub mod Drawing
+pub mod Taking
 pub mod Inserting
 pub mod Lowering
 pub mod Rounding

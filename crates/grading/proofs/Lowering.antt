@@ -1,13 +1,14 @@
 -- Values lowered one after another: what has changed, and what none of them is above. Assumes nothing.
-use Rattle.std.proofs.Common.{◌≡◌, ℕ, ◌+◌, ◌<◌, ◌≤◌, Bool, true, false, not, ◌&&◌, List, length, get_or, set, get_or-set_same, get_or-set_other, ◌⊎◌, ◌≢◌, sym, refl, ap, ◌∙◌, subst, inl, inr, ⊎_elim, arith}
+use Rattle.std.proofs.Common.{◌≡◌, ℕ, ◌+◌, ◌<◌, ◌≤◌, true, false, not, ◌&&◌, List, length, get_or, set, get_or-set_same, get_or-set_other, ◌⊎◌, ◌≢◌, sym, refl, ap, ◌∙◌, subst, inl, inr, ⊎_elim, arith}
 use Rattle.std.proofs.lemmas.Bool.{cases_eq, and_parts}
 use Rattle.model.specs.Sets.{has, Taken}
-use Rattle.model.proofs.Digits.{has_bound, put_here, put_other}
+use Rattle.model.proofs.Digits.{has_bound}
 use Rattle.scale.specs.declared.scale.Scale.{Ghosts}
 use Rattle.scale.proofs.Order.{HasLaws, asym, le_trans, le_plus, by_bool, clash}
 use Rattle.grading.specs.Problems.{at}
 use Rattle.grading.specs.Rising.{value_at, Rising}
 use Rattle.grading.specs.Relaxing.{Lowered, by_value, by_steps, Below}
+use Rattle.grading.proofs.Taking.{stays, was}
 
 -- a record that is not left is not above what the places of the order from n on give
 abbrev pub Passed : {V : Type 0} → Ghosts V → V → List V → List ℕ → ℕ → ℕ → List V → Type 0
@@ -51,10 +52,7 @@ module _ {V : Type 0} (s : Ghosts V) (laws : HasLaws s) where
   -- ---- the records of a set, one after another
   module _ (chosen rest rest' : ℕ) (value : V) (u : ℕ) (taken : Taken rest rest' u) where
     pub rest_less : ((w : ℕ) → has rest w ≡ true → has chosen w ≡ true) → (w : ℕ) → has rest' w ≡ true → has chosen w ≡ true
-    rest_less inside w is = inside w (⊎_elim
-        (λ (e : w ≡ u). absurd (clash (has rest' u) (subst (λ (x : ℕ). has rest' x ≡ true) e is) (ap (λ (f : ℕ → Bool). f u) taken.rest ∙ put_here (has rest) u false)))
-        (λ (ne : w ≢ u). sym (ap (λ (f : ℕ → Bool). f w) taken.rest ∙ put_other (has rest) u w false ne) ∙ is)
-        (cases_eq w u))
+    rest_less inside w is = inside w (was rest rest' u taken w is)
 
     pub below_less : (xs ys : List V) → s.less value (at s ys u) ≡ false → ((w : ℕ) → w < 64 → s.less (at s xs w) (at s ys w) ≡ false)
         → ((w : ℕ) → has chosen w ≡ true → (has rest w ≡ true) ⊎ (s.less value (at s xs w) ≡ false))
@@ -62,7 +60,7 @@ module _ {V : Type 0} (s : Ghosts V) (laws : HasLaws s) where
     below_less xs ys here at_most below w is = ⊎_elim
         (λ (e : w ≡ u). inr (subst (λ (x : ℕ). s.less value (at s ys x) ≡ false) (sym e) here))
         (λ (ne : w ≢ u). ⊎_elim
-        (λ (r : has rest w ≡ true). inl (ap (λ (f : ℕ → Bool). f w) taken.rest ∙ put_other (has rest) u w false ne ∙ r))
+        (λ (r : has rest w ≡ true). inl (stays rest rest' u taken w ne ∙ r))
         (λ (b : s.less value (at s xs w) ≡ false). inr (le_trans s laws (at s ys w) (at s xs w) value (at_most w (has_bound chosen w is)) b))
         (below w is))
         (cases_eq w u)

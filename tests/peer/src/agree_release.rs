@@ -47,7 +47,12 @@ pub fn read(bytes: &[u8], ended: &Ended) -> Result<(), String> {
 }
 
 fn shown(ended: &Ended) -> String {
-    format!("{} with {:?} and {:?}", if ended.well { "well" } else { "badly" }, String::from_utf8_lossy(&ended.output), String::from_utf8_lossy(&ended.errors))
+    format!(
+        "{} with {:?} and {:?}",
+        if ended.well { "well" } else { "badly" },
+        String::from_utf8_lossy(&ended.output),
+        String::from_utf8_lossy(&ended.errors)
+    )
 }
 
 fn refused(number: Number) -> Ended {

@@ -37,7 +37,7 @@ const FOR_EACH_KIND: u64 = 200;
 const FOLDERS: u64 = 3000;
 
 fn main() -> ExitCode {
-    match options().and_then(|options| compare(&options)) {
+    match options().and_then(|options| compare(&options).map_err(|why| format!("seed {}, {why}", options.seed))) {
         Ok(line) => {
             println!("{line}");
             ExitCode::SUCCESS
@@ -133,7 +133,7 @@ fn judged(options: &Options, place: u64, script: &[u8], tally: &mut Tally) -> Re
     tried(script, tally).map_err(|why| {
         let short = shrink::shorter(script, |fewer| tried(fewer, &mut Tally::default()).is_err());
         let now = tried(&short, &mut Tally::default()).err().unwrap_or_default();
-        format!("seed {}, script {place}: {why}\nmade shorter: {now}\n{}", options.seed, short.escape_ascii().to_string().replace("\\n", "\n"))
+        format!("script {place}: {why}\nmade shorter: {now}\n{}", short.escape_ascii().to_string().replace("\\n", "\n"))
     })
 }
 
@@ -155,7 +155,7 @@ fn all_releases(options: &Options) -> Result<Tally, String> {
         tally.add(parallel::each(options.jobs, options.scripts / 4, |place, tally| {
             let script = scripts::script(options.seed, place);
             let ended = program::ended(program, &["write"], &script)?;
-            agree_release::written(&script, &ended, tally).map_err(|why| format!("seed {}, release of script {place}: {why}", options.seed))
+            agree_release::written(&script, &ended, tally).map_err(|why| format!("release of script {place}: {why}"))
         })?);
     }
     Ok(tally)
