@@ -1,6 +1,6 @@
 -- From the outcome of a call for the least ratio to its answer. Assumes nothing.
-use Rattle.std.proofs.Common.{◌≡◌, ℕ, ◌≤◌, Bool, true, take, IfOk, Ok, Err, vec_items, MatchBool, Result, Vec, sym, subst}
-use Rattle.std.specs.declared.alloc.Global.{Global}
+use Rattle.std.proofs.Common.{◌≡◌, ℕ, ◌≤◌, Bool, true, take, Ok, Err, MatchBool, Result, sym, subst}
+use Rattle.arrayvec.specs.ArrayVec.{ArrayVec}
 use Rattle.model.specs.declared.decline.Decline.{Decline}
 use Rattle.model.specs.Refusals.{ring_length}
 use Rattle.model.specs.Rings.{Circle}
@@ -21,8 +21,8 @@ module _ (w : View) (before after : Memory Whole) (room : suffices before ≡ tr
   pub enough : (r : Result Ratio Decline) → RatioFound w before after r → RatioOrCircle w before after r
   enough r o = subst (λ (b : Bool). MatchBool b (RatioOrCircle w before after r) (Declined 1 before after (valueless r))) room o
 
-  pub ratio_told : (r : Ratio) (ring : Vec ℕ Global) (v : Vec (Graded Whole) Global) → RatioFound w before after (Ok r)
-      → vec_items ring ≡ take r.ring after.ring → vec_items v ≡ entries_below w (grade_at after.grades) 64
+  pub ratio_told : (r : Ratio) (ring : ArrayVec ℕ) (v : ArrayVec (Graded Whole)) → RatioFound w before after (Ok r)
+      → ring.items ≡ take r.ring after.ring → v.items ≡ entries_below w (grade_at after.grades) 64
       → RatioTold w (Ratio-answer r.marks r.hops ring v)
   ratio_told r ring v o shown list =
       let given = enough (Ok r) o in
@@ -31,11 +31,6 @@ module _ (w : View) (before after : Memory Whole) (room : suffices before ≡ tr
   pub circle_short : (d : Decline) → RatioFound w before after (Err d) → ring_length d ≤ 64
   circle_short d o = (enough (Err d) o).1.short
 
-  circle_refused : (d : Decline) (x : Answer) → RatioFound w before after (Err d) → Refused d (take (ring_length d) after.ring) x → RatioTold w x
+  pub circle_refused : (d : Decline) (x : Answer) → RatioFound w before after (Err d) → Refused d (take (ring_length d) after.ring) x → RatioTold w x
   circle_refused d x o (plain no-circle no-ring) = absurd (no-circle (enough (Err d) o).0)
   circle_refused d x o (forced v is e long) = circled d v (enough (Err d) o).0 long (subst (Circle w) (sym e) (enough (Err d) o).1.ring)
-
-  pub circle_made : {E : Type 0} (d : Decline) (r : Result Answer E) → RatioFound w before after (Err d)
-      → IfOk r (Refused d (take (ring_length d) after.ring)) → IfOk r (RatioTold w)
-  circle_made d (Ok x) o m = circle_refused d x o m
-  circle_made d (Err e) o m = tt

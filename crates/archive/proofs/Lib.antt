@@ -6,3 +6,4 @@ pub mod Plainly
 pub mod Tidying
 pub mod Following
 pub mod Lessening
+pub mod Histories

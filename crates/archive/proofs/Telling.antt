@@ -1,6 +1,6 @@
 -- From the outcome of a grading call to its answer. Assumes nothing.
-use Rattle.std.proofs.Common.{ap, length, ◌≤◌, ◌⊎◌, length-take-le, ◌≡◌, ℕ, Bool, true, false, List, get_or, take, IfOk, Ok, Err, vec_items, MatchBool, Result, Vec, sym, refl, subst, inl, inr, arith}
-use Rattle.std.specs.declared.alloc.Global.{Global}
+use Rattle.std.proofs.Common.{ap, length, ◌≤◌, ◌⊎◌, length-take-le, ◌≡◌, ℕ, Bool, true, false, List, get_or, take, Ok, Err, MatchBool, Result, sym, refl, subst, inl, inr, arith}
+use Rattle.arrayvec.specs.ArrayVec.{ArrayVec}
 use Rattle.model.specs.declared.decline.Decline.{Decline}
 use Rattle.model.specs.declared.decline.Decline.TheVariants.{TooLittleMemory, NumberTooHigh, SameRecord, RecordAbsent, RecordAside, AlreadyStands, AlreadyMarked, SheetFull, NotMarked, NotSetAside, OutsideLimits, Circle, Forbidden, MissingByte, BrokenForm, DoesNotHold, WrongLine}
 use Rattle.model.specs.declared.thresholds.Thresholds.{Thresholds}
@@ -36,7 +36,7 @@ plain_number DoesNotHold c f = (λ e. omega arith, λ e. omega arith)
 plain_number WrongLine c f = (λ e. omega arith, λ e. omega arith)
 
 -- a refusal that shows a ring, and that ring
-pub with_ring : (d : Decline) (k : ℕ) (ring : List ℕ) (v : Vec ℕ Global) → (d ≡ Circle k) ⊎ (d ≡ Forbidden k) → ring_length d ≤ length ring → vec_items v ≡ take k ring
+pub with_ring : (d : Decline) (k : ℕ) (ring : List ℕ) (v : ArrayVec ℕ) → (d ≡ Circle k) ⊎ (d ≡ Forbidden k) → ring_length d ≤ length ring → v.items ≡ take k ring
     → Refused d (take (ring_length d) ring) (Forced d v)
 with_ring d k ring v (inl is) within items =
     let long : ring_length d ≡ k = ap ring_length is in
@@ -45,19 +45,39 @@ with_ring d k ring v (inr is) within items =
     let long : ring_length d ≡ k = ap ring_length is in
     forced v (inr (ap number_of is)) (rw long items) (omega (arith, ap length items, length-take-le k ring (omega arith)))
 
-module _ {V : Type 0} (w : View) (t : Thresholds) (asked : (ℕ → V) → Type 0) (none : V) (forbids : List ℕ → Type 0) (give : Vec (Graded V) Global → Answer) (before after : Memory V) (room : suffices before ≡ true) where
+-- the number 11 comes with no ring
+ringless : (d : Decline) → number_of d ≡ 11 → ring_length d ≤ 64
+ringless TooLittleMemory e = omega arith
+ringless NumberTooHigh e = omega arith
+ringless SameRecord e = omega arith
+ringless RecordAbsent e = omega arith
+ringless RecordAside e = omega arith
+ringless AlreadyStands e = omega arith
+ringless AlreadyMarked e = omega arith
+ringless SheetFull e = omega arith
+ringless NotMarked e = omega arith
+ringless NotSetAside e = omega arith
+ringless OutsideLimits e = omega arith
+ringless MissingByte e = omega arith
+ringless BrokenForm e = omega arith
+ringless DoesNotHold e = omega arith
+ringless WrongLine e = omega arith
+ringless (Circle k) e = absurd (omega (arith, e))
+ringless (Forbidden k) e = absurd (omega (arith, e))
+
+module _ {V : Type 0} (w : View) (t : Thresholds) (asked : (ℕ → V) → Type 0) (none : V) (forbids : List ℕ → Type 0) (give : ArrayVec (Graded V) → Answer) (before after : Memory V) (room : suffices before ≡ true) where
   -- with enough memory: the limits first, and then the grades or the ring
   inside : (r : Result (Unit {0}) Decline) → Outcome w t asked none forbids before after r → MatchBool (within_limits t) (Solved w asked none forbids before after r) (Declined 11 before after r)
   inside r o = subst (λ (b : Bool). MatchBool b (MatchBool (within_limits t) (Solved w asked none forbids before after r) (Declined 11 before after r)) (Declined 1 before after r)) room o
 
-  pub told_given : (v : Vec (Graded V) Global) → Outcome w t asked none forbids before after (Ok tt) → vec_items v ≡ entries_below w (λ u. get_or after.grades u none) 64 → GradesTold w t asked forbids give (give v)
+  pub told_given : (v : ArrayVec (Graded V)) → Outcome w t asked none forbids before after (Ok tt) → v.items ≡ entries_below w (λ u. get_or after.grades u none) 64 → GradesTold w t asked forbids give (give v)
   told_given v o e = go (within_limits t) refl (inside (Ok tt) o)
     where
       go : (b : Bool) → within_limits t ≡ b → MatchBool b (Given w asked none before after) (Declined 11 before after (Ok tt)) → GradesTold w t asked forbids give (give v)
       go true l s = given v (λ u. get_or after.grades u none) l s.grades e
       go false l s = absurd (omega (arith, s.answer))
 
-  told_refused : (d : Decline) (x : Answer) → Outcome w t asked none forbids before after (Err d) → Refused d (take (ring_length d) after.ring) x → GradesTold w t asked forbids give x
+  pub told_refused : (d : Decline) (x : Answer) → Outcome w t asked none forbids before after (Err d) → Refused d (take (ring_length d) after.ring) x → GradesTold w t asked forbids give x
   told_refused d x o = go (within_limits t) refl (inside (Err d) o) x
     where
       go : (b : Bool) → within_limits t ≡ b → MatchBool b ((number_of d ≡ 13) × Shown forbids (ring_length d) before after) (Declined 11 before after (Err d)) → (y : Answer) → Refused d (take (ring_length d) after.ring) y → GradesTold w t asked forbids give y
@@ -67,6 +87,9 @@ module _ {V : Type 0} (w : View) (t : Thresholds) (asked : (ℕ → V) → Type 
       go false l s y (forced v (inl is) e long) = absurd (omega (arith, s.answer))
       go false l s y (forced v (inr is) e long) = absurd (omega (arith, s.answer))
 
-  pub told_made : {E : Type 0} (d : Decline) (r : Result Answer E) → Outcome w t asked none forbids before after (Err d) → IfOk r (Refused d (take (ring_length d) after.ring)) → IfOk r (GradesTold w t asked forbids give)
-  told_made d (Ok x) o m = told_refused d x o m
-  told_made d (Err e) o m = tt
+  pub refusal_short : (d : Decline) → Outcome w t asked none forbids before after (Err d) → ring_length d ≤ 64
+  refusal_short d o = go (within_limits t) (inside (Err d) o)
+    where
+      go : (b : Bool) → MatchBool b ((number_of d ≡ 13) × Shown forbids (ring_length d) before after) (Declined 11 before after (Err d)) → ring_length d ≤ 64
+      go true s = s.1.short
+      go false s = ringless d s.answer

@@ -1,6 +1,5 @@
 -- A folder follows the account. Assumes nothing.
-use Rattle.std.specs.Prelude.{◌≡◌, ℕ, true, List, IfOk, Result, ◌≢◌}
-use Rattle.std.specs.declared.alloc.AllocError.{AllocError}
+use Rattle.std.specs.Prelude.{◌≡◌, ℕ, true, List, ◌≢◌}
 use Rattle.sheet.specs.declared.state.State.TheVariants.{Absent}
 use Rattle.sheet.specs.declared.meaning.Sheet.{Ghosts}
 use Rattle.sheet.specs.Views.{meaning_of}
@@ -22,10 +21,15 @@ pub record Followed (a : Account) (c : Call) (b : Account) : Type 0 where
   pub account : b ≡ next a c
   pub tidy : Tidy b
 
--- if no absent number is in the set before the call: the account goes from a to b, no absent number is in the set after it, and the answer r is right
-pub record Answered (a : Account) (c : Call) (b : Account) (r : Result Answer AllocError) : Type 0 where
+-- the call takes the account from a to b, and the answer x is right
+pub record Answered (a : Account) (c : Call) (b : Account) (x : Answer) : Type 0 where
+  pub account : b ≡ next a c
+  pub right : Right a c x
+
+-- the same if no absent number is in the set before the call; then none is in it after the call
+pub record Tended (a : Account) (c : Call) (b : Account) (x : Answer) : Type 0 where
   pub follows : Tidy a → Followed a c b
-  pub right : Tidy a → IfOk r (Right a c)
+  pub right : Tidy a → Right a c x
 
 -- a new folder over the sheet `below`, after all calls: it has what the account has, and answers each question as the account
 -- tells it; each call was answered rightly; and settings aside alone made no ratio greater

@@ -4,3 +4,4 @@ pub mod Accounts
 pub mod Right
 pub mod Lessening
 pub mod Following
+pub mod Histories

@@ -1,6 +1,6 @@
 -- The right answers to a grading call and to the least ratio. Assumes nothing.
-use Rattle.std.specs.Prelude.{◌≡◌, ℕ, true, false, ◌⊎◌, List, length, vec_items, Vec, ◌≢◌}
-use Rattle.std.specs.declared.alloc.Global.{Global}
+use Rattle.std.specs.Prelude.{◌≡◌, ℕ, true, false, ◌⊎◌, List, length, ◌≢◌}
+use Rattle.arrayvec.specs.ArrayVec.{ArrayVec}
 use Rattle.model.specs.declared.decline.Decline.{Decline}
 use Rattle.model.specs.declared.thresholds.Thresholds.{Thresholds}
 use Rattle.model.specs.Limits.{within_limits}
@@ -18,14 +18,14 @@ use Rattle.archive.specs.Entries.{entries_below}
 -- a refusal as an answer: 12 and 13 come with their ring, and with its length
 pub data Refused (d : Decline) (ring : List ℕ) : Answer → Type 0 where
   plain : (number_of d ≢ 12) → (number_of d ≢ 13) → Refused d ring (Declined d)
-  forced : (v : Vec ℕ Global) → (number_of d ≡ 12) ⊎ (number_of d ≡ 13) → vec_items v ≡ ring → ring_length d ≡ length (vec_items v) → Refused d ring (Forced d v)
+  forced : (v : ArrayVec ℕ) → (number_of d ≡ 12) ⊎ (number_of d ≡ 13) → v.items ≡ ring → ring_length d ≡ length v.items → Refused d ring (Forced d v)
 
 -- declined by 11 outside the limits; else by 13 with a ring that forbids, or the standing records with the grades asked for
-pub data GradesTold {V : Type 0} (w : View) (t : Thresholds) (asked : (ℕ → V) → Type 0) (forbids : List ℕ → Type 0) (give : Vec (Graded V) Global → Answer) : Answer → Type 0 where
+pub data GradesTold {V : Type 0} (w : View) (t : Thresholds) (asked : (ℕ → V) → Type 0) (forbids : List ℕ → Type 0) (give : ArrayVec (Graded V) → Answer) : Answer → Type 0 where
   outside : (d : Decline) → number_of d ≡ 11 → within_limits t ≡ false → GradesTold w t asked forbids give (Declined d)
-  forced : (d : Decline) (v : Vec ℕ Global) → number_of d ≡ 13 → ring_length d ≡ length (vec_items v) → within_limits t ≡ true → forbids (vec_items v)
+  forced : (d : Decline) (v : ArrayVec ℕ) → number_of d ≡ 13 → ring_length d ≡ length v.items → within_limits t ≡ true → forbids v.items
       → GradesTold w t asked forbids give (Forced d v)
-  given : (v : Vec (Graded V) Global) (g : ℕ → V) → within_limits t ≡ true → asked g → vec_items v ≡ entries_below w g 64 → GradesTold w t asked forbids give (give v)
+  given : (v : ArrayVec (Graded V)) (g : ℕ → V) → within_limits t ≡ true → asked g → v.items ≡ entries_below w g 64 → GradesTold w t asked forbids give (give v)
 
 abbrev pub LooseTold : View → Thresholds → Answer → Type 0
 LooseTold w t x = GradesTold w t (λ g. BestLoose w t (λ u. (g u).value)) (ForbidsLoosely w t) Wholes x
@@ -38,7 +38,7 @@ UnitTold w x = GradesTold w unit_thresholds (λ g. BestLoose w unit_thresholds (
 
 -- declined by 12 with a circle; else the least ratio with its ring, and the standing records with their grades at that ratio
 pub data RatioTold (w : View) : Answer → Type 0 where
-  circled : (d : Decline) (v : Vec ℕ Global) → number_of d ≡ 12 → ring_length d ≡ length (vec_items v) → Circle w (vec_items v) → RatioTold w (Forced d v)
-  found : (e h : ℕ) (ring : Vec ℕ Global) (v : Vec (Graded Whole) Global) (g : ℕ → Whole)
-      → LeastRatio w e h (vec_items ring) → BestLoose w (thresholds_at e h) (λ u. (g u).value) → vec_items v ≡ entries_below w g 64
+  circled : (d : Decline) (v : ArrayVec ℕ) → number_of d ≡ 12 → ring_length d ≡ length v.items → Circle w v.items → RatioTold w (Forced d v)
+  found : (e h : ℕ) (ring : ArrayVec ℕ) (v : ArrayVec (Graded Whole)) (g : ℕ → Whole)
+      → LeastRatio w e h ring.items → BestLoose w (thresholds_at e h) (λ u. (g u).value) → v.items ≡ entries_below w g 64
       → RatioTold w (Ratio e h ring v)

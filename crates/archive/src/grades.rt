@@ -1,100 +1,55 @@
-// A grading call and its answer: memory is brought, and what was found is listed.
-ghost use Rattle.std.specs.Prelude.{◌≡◌, true, IfOk, Vec};
-ghost use Rattle.std.specs.declared.alloc.Global.{Global};
+// A grading call and its answer, in memory that is brought.
+ghost use Rattle.std.specs.Prelude.{◌≡◌, true};
 ghost use Rattle.sheet.specs.Views.{view_of};
 ghost use Rattle.grading.specs.Outcomes.{brought, suffices};
-ghost use Rattle.archive.specs.declared.answer.Answer.{Answer};
-ghost use Rattle.archive.specs.declared.answer.Answer.TheVariants.{Wholes, Pairs, Units};
-ghost use Rattle.archive.specs.declared.answer.Graded.{Graded};
-ghost use Rattle.archive.specs.Told.{GradesTold};
+ghost use Rattle.archive.specs.Told.{LooseTold, StrictTold, UnitTold};
 
-use crate::answer::{Answer, Graded};
+use crate::answer::Answer;
 use crate::listing::list_grades;
 use crate::refusal::refusal;
-use grading::kinds::{Kind, graded};
+use grading::kinds::graded;
 use grading::memory::Memory;
 use model::thresholds::Thresholds;
 use scale::pair::Pair;
 use scale::unit::Unit;
 use scale::whole::Whole;
 use sheet::meaning::Sheet;
-use std::alloc::{AllocError, Global};
 
-// A kind of grading whose grades have their place in an answer. Not three `From`s: the promise names what is made, as a function, and
-// `From` tells a relation.
-pub trait Answering: Kind {
-    ghost give: { Vec (Graded Self) Global → Answer };
-
-    fn give(entries: Vec<Graded<Self>>) -> Answer
-        ensures { result ≡ give entries };
-}
-
-impl Answering for Whole {
-    ghost give = { Wholes };
-
-    fn give(entries: Vec<Graded<Whole>>) -> Answer
-        ensures { result ≡ Wholes entries }
-    {
-        Answer::Wholes(entries)
-    }
-}
-
-impl Answering for Pair<Whole, Unit> {
-    ghost give = { Pairs };
-
-    fn give(entries: Vec<Graded<Pair<Whole, Unit>>>) -> Answer
-        ensures { result ≡ Pairs entries }
-    {
-        Answer::Pairs(entries)
-    }
-}
-
-impl Answering for Unit {
-    ghost give = { Units };
-
-    fn give(entries: Vec<Graded<Unit>>) -> Answer
-        ensures { result ≡ Units entries }
-    {
-        Answer::Units(entries)
-    }
-}
-
-// The answer to a grading of the kind, in memory that is enough.
-fn answer_in<S: Sheet, V: Answering>(
-    heap: Global,
+pub fn loose_answer<S: Sheet>(
     sheet: &S,
     thresholds: Thresholds,
-    memory: &mut Memory<'_, V>,
-) -> Result<Answer, AllocError>
+    memory: &mut Memory<'_, Whole>,
+) -> Answer
     requires { suffices (brought memory.old) ≡ true }
-    ensures { IfOk result (GradesTold (view_of S.Sheet sheet.now) (V.counted thresholds) (V.asked (view_of S.Sheet sheet.now) (V.counted thresholds))
-        (V.forbids (view_of S.Sheet sheet.now) (V.counted thresholds)) V.give) }
+    ensures { LooseTold (view_of S.Sheet sheet.now) thresholds result }
 {
     match graded(sheet, thresholds, memory) {
-        Ok(()) => Ok(V::give(list_grades(heap, sheet, memory.grades)?)),
-        Err(decline) => refusal(heap, decline, memory.ring),
+        Ok(()) => Answer::Wholes(list_grades(sheet, memory.grades)),
+        Err(decline) => refusal(decline, memory.ring),
     }
 }
 
-// The answer to a grading of the kind. Values come in vectors: that so many of any scale fit in memory is known of no scale, so for
-// arrays of them the proof did not close.
-pub fn grades_answer<S: Sheet, V: Answering>(
-    heap: Global,
+pub fn strict_answer<S: Sheet>(
     sheet: &S,
     thresholds: Thresholds,
-) -> Result<Answer, AllocError>
-    ensures { IfOk result (GradesTold (view_of S.Sheet sheet.now) (V.counted thresholds) (V.asked (view_of S.Sheet sheet.now) (V.counted thresholds))
-        (V.forbids (view_of S.Sheet sheet.now) (V.counted thresholds)) V.give) }
+    memory: &mut Memory<'_, Pair<Whole, Unit>>,
+) -> Answer
+    requires { suffices (brought memory.old) ≡ true }
+    ensures { StrictTold (view_of S.Sheet sheet.now) thresholds result }
 {
-    let mut grades = vec![in heap; V::nothing(); 64]?;
-    let mut ring = [0; 64];
-    let mut values = vec![in heap; V::nothing(); 4160]?;
-    let mut bytes = [0; 4160];
-    let mut memory = Memory {
-        grades: &mut grades,
-        ring: &mut ring,
-        values: &mut values,
-        bytes: &mut bytes,
-    };
-    answer_in(heap, sheet, thresholds, &mut memory)
+    match graded(sheet, thresholds, memory) {
+        Ok(()) => Answer::Pairs(list_grades(sheet, memory.grades)),
+        Err(decline) => refusal(decline, memory.ring),
+    }
+}
+
+// Whatever thresholds are given, those of the unit count.
+pub fn unit_answer<S: Sheet>(sheet: &S, memory: &mut Memory<'_, Unit>) -> Answer
+    requires { suffices (brought memory.old) ≡ true }
+    ensures { UnitTold (view_of S.Sheet sheet.now) result }
+{
+    match graded(sheet, Thresholds { t1: 1, t2: 0 }, memory) {
+        Ok(()) => Answer::Units(list_grades(sheet, memory.grades)),
+        Err(decline) => refusal(decline, memory.ring),
+    }
 }

@@ -3,8 +3,11 @@
 
 pub mod answer;
 pub mod call;
+pub mod desk;
 mod grades;
 mod listing;
 mod ratio;
 mod refusal;
 pub mod replay;
+mod room;
+pub mod theorems;

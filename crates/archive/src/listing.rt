@@ -1,12 +1,12 @@
-// The standing records of a sheet with their grades, rising.
-ghost use Rattle.std.specs.Prelude.{◌≡◌, ◌≤◌, length, IfOk, slice_index_or};
+// What an answer lists: the standing records of a sheet with their grades, rising; and a ring.
+ghost use Rattle.std.specs.Prelude.{◌≡◌, ◌≤◌, length, slice_index_or};
 ghost use Rattle.sheet.specs.Views.{view_of};
 ghost use Rattle.archive.specs.Entries.{entries_below};
 
 use crate::answer::Graded;
+use arrayvec::ArrayVec;
 use scale::scale::Scale;
 use sheet::meaning::Sheet;
-use std::alloc::{AllocError, Global};
 
 // Whether u is part of a grading.
 fn stands<S: Sheet>(sheet: &S, u: u8) -> bool
@@ -15,22 +15,28 @@ fn stands<S: Sheet>(sheet: &S, u: u8) -> bool
     sheet.state(u).stands()
 }
 
-pub fn list_grades<S: Sheet, V: Scale>(
-    heap: Global,
-    sheet: &S,
-    grades: &[V],
-) -> Result<Vec<Graded<V>>, AllocError>
+pub fn list_grades<S: Sheet, V: Scale + Default>(sheet: &S, grades: &[V]) -> ArrayVec<Graded<V>, 64>
     requires { 64 ≤ length grades.now }
-    ensures { IfOk result (λ v. v.items ≡ entries_below (view_of S.Sheet sheet.now) (λ u. slice_index_or grades.now u V.Scale.nothing) 64) }
+    ensures { result.items ≡ entries_below (view_of S.Sheet sheet.now) (λ u. slice_index_or grades.now u V.Scale.nothing) 64 }
 {
-    let mut list = Vec::new(heap);
+    let mut list = ArrayVec::new();
     for (u, grade) in grades[..64].iter().enumerate() {
         if stands(sheet, u as u8) {
             list.push(Graded {
                 record: u as u8,
                 grade: *grade,
-            })?;
+            });
         }
     }
-    Ok(list)
+    list
+}
+
+// A ring has at most 64 records.
+pub fn list_ring(ring: &[u8]) -> ArrayVec<u8, 64>
+    requires { length ring.now ≤ 64 }
+    ensures { result.items ≡ ring.now }
+{
+    let mut list = ArrayVec::new();
+    let _ = list.try_extend_from_slice(ring);
+    list
 }

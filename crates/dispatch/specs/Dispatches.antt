@@ -1,7 +1,6 @@
 -- What is handed out after a script. Assumes nothing.
 use Rattle.std.specs.Prelude.{◌≡◌, ℕ, List, length, ℤ, vec_items, Vec, Ok, Err, Result}
 use Rattle.std.specs.declared.alloc.Global.{Global}
-use Rattle.std.specs.declared.alloc.AllocError.{AllocError}
 use Rattle.model.specs.declared.decline.Decline.{Decline}
 use Rattle.model.specs.Refusals.{number_of, ring_length}
 use Rattle.model.specs.Rings.{Circle}
@@ -51,7 +50,6 @@ Handed w (Err (NoHeap e)) = Unit {0}
 -- of what stands by the plain account after the calls of the lines, in a new folder over a sheet that means m
 pub data HandedAfter (m : Meaning) (lines : List ℕ) : Result (Vec ℕ Global) Refusal → Type 0 where
   handed : {r : Result (Vec ℕ Global) Refusal} (calls : List Call) → Spoken (lines_of lines) calls → Handed (stands_in (run (opened m) calls)) r → HandedAfter m lines r
-  no_heap : (e : AllocError) → HandedAfter m lines (Err (NoHeap e))
 
 -- a script that opens with a make, and any other, which is declined by 17
 pub data Dispatched (script : List ℕ) : Result (Vec ℕ Global) Refusal → Type 0 where

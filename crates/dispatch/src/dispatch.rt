@@ -8,15 +8,14 @@ ghost use Rattle.dispatch.specs.Dispatches.{Handed, HandedAfter, Dispatched};
 ghost use Rattle.script.specs.Makes.{new_sheet};
 
 use crate::refusal::Refusal;
-use archive::replay::replay;
 use grading::memory::{Memory, Room};
 use layers::folder::Folder;
 use listsheet::ListSheet;
 use model::decline::Decline;
 use round::trip::write_and_read;
 use scale::whole::Whole;
-use script::lines::calls_in;
 use script::make::{Make, opening};
+use script::run::desk_after;
 use sheet::bitsheet::BitSheet;
 use sheet::meaning::Sheet;
 use std::alloc::Global;
@@ -47,9 +46,7 @@ fn release_of<S: Sheet>(heap: Global, folder: &Folder<S>) -> Result<Vec<u8>, Ref
 fn after<S: Sheet + Drop>(heap: Global, sheet: S, lines: &[u8]) -> Result<Vec<u8>, Refusal>
     ensures { HandedAfter (meaning_of S.Sheet sheet) lines.now result }
 {
-    let calls = calls_in(heap, lines)?;
-    let (folder, _) = replay(heap, sheet, &calls)?;
-    release_of(heap, &folder)
+    release_of(heap, desk_after(sheet, lines).folder())
 }
 
 // The release of the folder that the script leaves: declines by 17 where the first line names no make, and by 12 where a circle stands.

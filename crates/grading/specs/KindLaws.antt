@@ -26,9 +26,9 @@ strict_given = best_strict
 pub strict_shown : (w : View) (t : Thresholds) (xs : List ℕ) → Forbids (pair_scale whole_scale unit_scale) w t xs → strict_forbidden w t xs
 strict_shown = forbids_strictly
 
--- for t1 = 1 and t2 = 0 the unit scale has the values of the whole scale
-pub unit_given : (w : View) (t : Thresholds) (g : ℕ → Units) → Best unit_scale w unit_thresholds g → unit_asked w unit_thresholds g
-unit_given w t = best_loose unit_scale unit_laws unit_thresholds (λ x. x.value) unit_numbered w
+-- the unit scale has the values of the whole scale for t1 = 1 and t2 = 0, whatever the thresholds
+pub unit_given : (w : View) (t : Thresholds) (g : ℕ → Units) → Best unit_scale w t g → unit_asked w t g
+unit_given w t g b = best_loose unit_scale unit_laws unit_thresholds (λ x. x.value) unit_numbered w g (record { meets = b.meets; low = b.low; extent = b.extent; greatest = b.greatest; walk = b.walk })
 
-pub unit_shown : (w : View) (t : Thresholds) (xs : List ℕ) → Forbids unit_scale w unit_thresholds xs → unit_forbidden w unit_thresholds xs
-unit_shown w t = forbids_loosely unit_scale unit_laws unit_thresholds (λ x. x.value) unit_numbered w
+pub unit_shown : (w : View) (t : Thresholds) (xs : List ℕ) → Forbids unit_scale w t xs → unit_forbidden w t xs
+unit_shown w t xs f = forbids_loosely unit_scale unit_laws unit_thresholds (λ x. x.value) unit_numbered w xs (record { ring = f.ring; below = f.below })

@@ -6,7 +6,7 @@ use Rattle.scale.specs.declared.scale.Scale.{Ghosts}
 use Rattle.scale.specs.declared.whole.Whole.{Whole}
 use Rattle.scale.specs.declared.unit.Unit.{Unit as Units}
 use Rattle.scale.specs.declared.pair.Pair.{Pair}
-use Rattle.paths.specs.Numbers.{BestLoose, ForbidsLoosely, BestStrict, ForbidsStrictly}
+use Rattle.paths.specs.Numbers.{BestLoose, ForbidsLoosely, BestStrict, ForbidsStrictly, unit_thresholds}
 
 -- a scale by the ghost members of its trait
 abbrev pub scale_of : {V : Type 0} → V → (V → V → V) → (V → V → V) → (V → V → Bool) → (Thresholds → V) → (Thresholds → V) → (V → ℕ → Type 0) → Ghosts V
@@ -25,7 +25,7 @@ abbrev pub strict_forbidden : View → Thresholds → List ℕ → Type 0
 strict_forbidden = ForbidsStrictly
 
 abbrev pub unit_asked : View → Thresholds → (ℕ → Units) → Type 0
-unit_asked w t g = BestLoose w t (λ u. (g u).value)
+unit_asked w t g = BestLoose w unit_thresholds (λ u. (g u).value)
 
 abbrev pub unit_forbidden : View → Thresholds → List ℕ → Type 0
-unit_forbidden = ForbidsLoosely
+unit_forbidden w t xs = ForbidsLoosely w unit_thresholds xs

@@ -6,7 +6,6 @@ ghost use Rattle.model.specs.Views.{View};
 ghost use Rattle.sheet.specs.Views.{view_of};
 ghost use Rattle.paths.specs.Bests.{Best, Forbids};
 ghost use Rattle.grading.specs.Outcomes.{brought, SameLent, Outcome};
-ghost use Rattle.paths.specs.Numbers.{unit_thresholds};
 ghost use Rattle.grading.specs.Kinds.{scale_of, loose_asked, strict_asked, unit_asked, loose_forbidden, strict_forbidden, unit_forbidden};
 ghost use Rattle.grading.specs.KindLaws.{loose_given, loose_shown, strict_given, strict_shown, unit_given, unit_shown};
 
@@ -22,27 +21,19 @@ use sheet::meaning::Sheet;
 
 // A scale whose best values are grades in whole numbers.
 pub trait Kind: Scale {
-    // the thresholds that count where some are given
-    ghost counted: { Thresholds → Thresholds };
-
     // the grades that are given
     ghost asked: { View → Thresholds → (ℕ → Self) → Type 0 };
 
     // the rings that forbid such grades
     ghost forbids: { View → Thresholds → List ℕ → Type 0 };
 
-    fn counted(given: Thresholds) -> Thresholds
-        ensures { result ≡ counted given };
+    ghost given: { (w : View) (t : Thresholds) (g : ℕ → Self) → Best (scale_of Self.nothing Self.plus Self.sum Self.less Self.mark Self.hop Self.extent) w t g → asked w t g };
 
-    ghost given: { (w : View) (t : Thresholds) (g : ℕ → Self) → Best (scale_of Self.nothing Self.plus Self.sum Self.less Self.mark Self.hop Self.extent) w (counted t) g → asked w (counted t) g };
-
-    ghost shown: { (w : View) (t : Thresholds) (xs : List ℕ) → Forbids (scale_of Self.nothing Self.plus Self.sum Self.less Self.mark Self.hop Self.extent) w (counted t) xs → forbids w (counted t) xs };
+    ghost shown: { (w : View) (t : Thresholds) (xs : List ℕ) → Forbids (scale_of Self.nothing Self.plus Self.sum Self.less Self.mark Self.hop Self.extent) w t xs → forbids w t xs };
 }
 
 // Loose: the highest grading to the denominator 1 without a grade above 0.
 impl Kind for Whole {
-    ghost counted = { λ t. t };
-
     ghost asked = { loose_asked };
 
     ghost forbids = { loose_forbidden };
@@ -50,16 +41,10 @@ impl Kind for Whole {
     ghost given = { loose_given };
 
     ghost shown = { loose_shown };
-
-    fn counted(given: Thresholds) -> Thresholds {
-        given
-    }
 }
 
 // Strict: the greatest pairs a, b that stand for a strict grading 128·a + b to the denominator 128.
 impl Kind for Pair<Whole, Unit> {
-    ghost counted = { λ t. t };
-
     ghost asked = { strict_asked };
 
     ghost forbids = { strict_forbidden };
@@ -67,16 +52,10 @@ impl Kind for Pair<Whole, Unit> {
     ghost given = { strict_given };
 
     ghost shown = { strict_shown };
-
-    fn counted(given: Thresholds) -> Thresholds {
-        Whole::counted(given)
-    }
 }
 
 // Unit: the highest grading in which every mark leads up by at least 1 and every hop not at all, whatever thresholds are given.
 impl Kind for Unit {
-    ghost counted = { λ _. unit_thresholds };
-
     ghost asked = { unit_asked };
 
     ghost forbids = { unit_forbidden };
@@ -84,10 +63,6 @@ impl Kind for Unit {
     ghost given = { unit_given };
 
     ghost shown = { unit_shown };
-
-    fn counted(_given: Thresholds) -> Thresholds {
-        Thresholds { t1: 1, t2: 0 }
-    }
 }
 
 // Grading of a kind: the grades that it asks for, or a ring that forbids them. Declines by 1, 11, 13.
@@ -96,9 +71,9 @@ pub fn graded<S: Sheet, V: Kind>(
     thresholds: Thresholds,
     memory: &mut Memory<'_, V>,
 ) -> Result<(), Decline>
-    ensures graded { Outcome (view_of S.Sheet sheet.now) (V.counted thresholds) (V.asked (view_of S.Sheet sheet.now) (V.counted thresholds))
-        V.nothing (V.forbids (view_of S.Sheet sheet.now) (V.counted thresholds)) (brought memory.old) (brought memory.new) result }
+    ensures graded { Outcome (view_of S.Sheet sheet.now) thresholds (V.asked (view_of S.Sheet sheet.now) thresholds)
+        V.nothing (V.forbids (view_of S.Sheet sheet.now) thresholds) (brought memory.old) (brought memory.new) result }
     ensures same { SameLent memory.old memory.new }
 {
-    grade(sheet, V::counted(thresholds), memory)
+    grade(sheet, thresholds, memory)
 }

@@ -1,10 +1,9 @@
 // The memory that a caller brings to a grading.
-ghost use Rattle.std.specs.Prelude.{◌≡◌, ◌≤◌, true, length, take, replicate, pos};
-ghost use Rattle.scale.specs.Wholes.{of_whole};
+ghost use Rattle.std.specs.Prelude.{◌≡◌, ◌≤◌, true, length, take, replicate};
 ghost use Rattle.grading.specs.Outcomes.{memory, brought, suffices};
 
 use crate::forbidden::Forbidden;
-use scale::whole::Whole;
+use scale::scale::Scale;
 
 // 64 places for grades, 64 bytes for a ring, and scratch of 4,160 values and 4,160 bytes. It may be more; what is more is kept.
 // Calls inside ask that each part has its size, by a clause: a type for that would be a second struct of the same four parts. And each
@@ -37,31 +36,30 @@ impl<V> Memory<'_, V> {
     }
 }
 
-// Memory of just the sizes, for grades in whole numbers.
+// Memory of just the sizes, for values of any scale.
 #[derive(Drop)]
-pub struct Room {
-    grades: [Whole; 64],
+pub struct Room<V> {
+    grades: [V; 64],
     ring: [u8; 64],
-    values: [Whole; 4160],
+    values: [V; 4160],
     bytes: [u8; 4160],
 }
 
-impl Room {
+impl<V: Scale> Room<V> {
     // All places hold nothing.
-    pub fn new() -> Room
-        ensures { memory result.grades result.ring result.values result.bytes ≡ memory (replicate 64 (of_whole (pos 0))) (replicate 64 0) (replicate 4160 (of_whole (pos 0))) (replicate 4160 0) }
+    pub fn new() -> Room<V>
+        ensures { memory result.grades result.ring result.values result.bytes ≡ memory (replicate 64 V.nothing) (replicate 64 0) (replicate 4160 V.nothing) (replicate 4160 0) }
     {
-        let nothing = Whole { value: 0 };
         Room {
-            grades: [nothing; 64],
+            grades: [V::nothing(); 64],
             ring: [0; 64],
-            values: [nothing; 4160],
+            values: [V::nothing(); 4160],
             bytes: [0; 4160],
         }
     }
 
     // What it holds is lent, and is enough.
-    pub fn lend(&mut self) -> Memory<'_, Whole>
+    pub fn lend(&mut self) -> Memory<'_, V>
         ensures lent { brought result ≡ memory self.old.grades self.old.ring self.old.values self.old.bytes }
         ensures enough { suffices (brought result) ≡ true }
     {

@@ -1,5 +1,5 @@
 // The least ratio: the greatest ratio of marks to hops that a ring has, with that ring and the grades at that ratio.
-ghost use Rattle.std.specs.Prelude.{◌≡◌, true, length, pos, nat_lt};
+ghost use Rattle.std.specs.Prelude.{◌≡◌, true, length, drop, pos, nat_lt};
 ghost use Rattle.model.specs.Limits.{within_limits};
 ghost use Rattle.model.specs.Ratios.{thresholds_at};
 ghost use Rattle.model.specs.Views.{View};
@@ -124,7 +124,9 @@ fn climb_beside<S: Sheet>(
     bytes: &mut [u8],
 ) -> Ratio
     requires { enough (length grades.old) (length ring.old) (length values.old) (length bytes.old) ≡ true }
-    ensures { Climbed (view_of S.Sheet sheet.now) result grades.old grades.new ring.new }
+    ensures climbed { Climbed (view_of S.Sheet sheet.now) result grades.old grades.new ring.new }
+    ensures values { drop 4160 values.new ≡ drop 4160 values.old }
+    ensures bytes { drop 4160 bytes.new ≡ drop 4160 bytes.old }
 {
     let mut memory = Memory {
         grades,

@@ -1,5 +1,5 @@
 // A graph solved in memory that was brought: the values of its standing records, or the ring that forbids them.
-ghost use Rattle.std.specs.Prelude.{◌≡◌, ◌<◌, ◌≤◌, true, length};
+ghost use Rattle.std.specs.Prelude.{◌≡◌, ◌<◌, ◌≤◌, true, length, drop};
 ghost use Rattle.model.specs.Limits.{within_limits};
 ghost use Rattle.model.specs.Views.{View};
 ghost use Rattle.model.specs.declared.thresholds.Thresholds.{Thresholds};
@@ -41,10 +41,15 @@ fn solve<V: Scale>(
 ) -> Result<(), Forbidden>
     requires room { enough (length grades.old) (length ring.old) (length values.old) (length bytes.old) ≡ true }
     requires costs { Costs V.Scale problem.now }
-    ensures { (w : View) (t : Thresholds) → Spells V.Scale w t problem.now → Attempt w (Best V.Scale w t) V.Scale.nothing (Forbids V.Scale w t)
+    ensures values { drop 4160 values.new ≡ drop 4160 values.old }
+    ensures bytes { drop 4160 bytes.new ≡ drop 4160 bytes.old }
+    ensures solved { (w : View) (t : Thresholds) → Spells V.Scale w t problem.now → Attempt w (Best V.Scale w t) V.Scale.nothing (Forbids V.Scale w t)
         (memory grades.old ring.old values.old bytes.old)
         (memory grades.new ring.new values.new bytes.new) result }
 {
+    // what is more than the stated size is kept
+    let (values, _) = values.split_at_mut(4160);
+    let (bytes, _) = bytes.split_at_mut(4160);
     let (old, rest) = values.split_at_mut(64);
     let (new, _) = rest.split_at_mut(64);
     let Some(next) = bytes.as_chunks_mut().0.first_chunk_mut() else {

@@ -5,6 +5,5 @@ pub mod OneWay
 pub mod FirstLine
 pub mod Sizes
 pub mod Puts
-pub mod Said
 pub mod Printing
 pub mod Judging

@@ -1,6 +1,5 @@
 -- Every answer of the archive is printable. Assumes nothing.
-use Rattle.std.proofs.Common.{◌≡◌, ℕ, zero, suc, ◌<◌, ◌≤◌, Bool, true, false, List, [], ◌∷◌, ◌++◌, length, get_or, vec_items, vec_len, Vec, sym, refl, subst, inl, inr, ⊎_elim, arith, length-append}
-use Rattle.std.specs.declared.alloc.Global.{Global}
+use Rattle.std.proofs.Common.{◌≡◌, ℕ, zero, suc, ◌<◌, ◌≤◌, Bool, true, false, List, [], ◌∷◌, ◌++◌, length, get_or, sym, refl, subst, inl, inr, ⊎_elim, arith, length-append}
 use Rattle.std.proofs.lemmas.List.{get_or_past}
 use Rattle.std.proofs.lemmas.Bool.{cases_lt}
 use Rattle.model.specs.declared.thresholds.Thresholds.{Thresholds}
@@ -82,29 +81,26 @@ ring_modest w xs r = (ring_low w xs r, ring_short w xs r)
 abbrev Fits : Answer → Type 0
 Fits x = Modest x × (entries_of x ≤ 64)
 
-counted : {X : Type 0} (v : Vec X Global) → length (vec_items v) ≤ 64 → vec_len v ≤ 64
-counted v l = subst (λ (n : ℕ). n ≤ 64) (sym v.ok.0) l
-
 plain_fits : (n : ℕ) (x : Answer) → Plain n x → Fits x
 plain_fits n x (taken e) = (tt, omega arith)
 plain_fits n x (declined d e) = (tt, omega arith)
 
 loose_fits : (w : View) (t : Thresholds) (x : Answer) → LooseTold w t x → Fits x
 loose_fits w t x (outside d e l) = (tt, omega arith)
-loose_fits w t x (forced d v e long l f) = let m = ring_modest w (vec_items v) f.ring in (m.0, counted v m.1)
-loose_fits w t x (given v g l best e) = let m = entries_modest w g WholeExtent (vec_items v) (λ u h st. omega (arith, best.size u h st, low t l, near t l)) e in (m.0, counted v m.1)
+loose_fits w t x (forced d v e long l f) = let m = ring_modest w v.items f.ring in (m.0, m.1)
+loose_fits w t x (given v g l best e) = let m = entries_modest w g WholeExtent v.items (λ u h st. omega (arith, best.size u h st, low t l, near t l)) e in (m.0, m.1)
 
 strict_fits : (w : View) (t : Thresholds) (x : Answer) → StrictTold w t x → Fits x
 strict_fits w t x (outside d e l) = (tt, omega arith)
-strict_fits w t x (forced d v e long l f) = let m = ring_modest w (vec_items v) f.ring in (m.0, counted v m.1)
+strict_fits w t x (forced d v e long l f) = let m = ring_modest w v.items f.ring in (m.0, m.1)
 strict_fits w t x (given v g l best e) =
-    let m = entries_modest w g (PairExtent WholeExtent UnitExtent) (vec_items v) (λ u h st. (omega (arith, (best.greatest.extent u h st).0), omega (arith, (best.greatest.extent u h st).1))) e in
-    (m.0, counted v m.1)
+    let m = entries_modest w g (PairExtent WholeExtent UnitExtent) v.items (λ u h st. (omega (arith, (best.greatest.extent u h st).0), omega (arith, (best.greatest.extent u h st).1))) e in
+    (m.0, m.1)
 
 unit_fits : (w : View) (x : Answer) → UnitTold w x → Fits x
 unit_fits w x (outside d e l) = (tt, omega arith)
-unit_fits w x (forced d v e long l f) = let m = ring_modest w (vec_items v) f.ring in (m.0, counted v m.1)
-unit_fits w x (given v g l best e) = let m = entries_modest w g UnitExtent (vec_items v) (λ u h st. omega (arith, best.size u h st)) e in (m.0, counted v m.1)
+unit_fits w x (forced d v e long l f) = let m = ring_modest w v.items f.ring in (m.0, m.1)
+unit_fits w x (given v g l best e) = let m = entries_modest w g UnitExtent v.items (λ u h st. omega (arith, best.size u h st)) e in (m.0, m.1)
 
 -- a ring's marks and hops are as many as its records, so at most 64
 shown_fits : (w : View) (e h : ℕ) (xs : List ℕ) → Shows w e h xs → (e < 256) × (h < 256) × ((k : ℕ) → get_or xs k 0 < 256) × (length xs ≤ 64)
@@ -116,10 +112,10 @@ shown_fits w e h xs (inr r) =
     (omega (arith, m.1, r.marks, all), omega (arith, m.1, r.hops, all), m.0, m.1)
 
 ratio_fits : (w : View) (x : Answer) → RatioTold w x → Fits x
-ratio_fits w x (circled d v e long c) = let m = ring_modest w (vec_items v) c.ring in (m.0, counted v m.1)
+ratio_fits w x (circled d v e long c) = let m = ring_modest w v.items c.ring in (m.0, m.1)
 ratio_fits w x (found e h ring v g least best is) =
-    let m = shown_fits w e h (vec_items ring) least.shown in
-    ((m.0, m.1, m.2), counted ring m.3)
+    let m = shown_fits w e h ring.items least.shown in
+    ((m.0, m.1, m.2), m.3)
 
 right_fits : (a : Account) (c : Call) (x : Answer) → Right a c x → Fits x
 right_fits a (Enter u) x r = plain_fits _ x r

@@ -1,5 +1,5 @@
 -- How long the parts of an answer's line can be.
-use Rattle.std.proofs.Common.{◌≡◌, ℕ, suc, ◌*◌, ◌^◌, ◌<◌, ◌≤◌, Bool, true, false, cond, eqb, List, [], ◌∷◌, ◌++◌, length, get_or, ℤ, pos, negsuc, nat_abs, vec_items, codes, decimal, refl, mul-suc, arith, length-append}
+use Rattle.std.proofs.Common.{◌≡◌, ℕ, suc, ◌*◌, ◌^◌, ◌<◌, ◌≤◌, Bool, true, false, cond, eqb, List, [], ◌∷◌, ◌++◌, length, get_or, ℤ, pos, negsuc, nat_abs, codes, decimal, refl, mul-suc, arith, length-append}
 use Rattle.std.specs.List.{flat_map}
 use Rattle.std.specs.Fmt.{signed_decimal}
 use Rattle.std.proofs.lemmas.List.{get_or_default}
@@ -90,12 +90,12 @@ text_long : (a : Answer) → entries_of a ≤ 64 → Modest a → length (text_o
 text_long Taken few m = omega arith
 text_long (Declined d) few m = omega (arith, byte_long (number_of d) (number_small d))
 text_long (Forced d ring) few m =
-    omega (arith, ring_long (vec_items ring) (omega (arith, ring.ok.0)) m, byte_long (number_of d) (number_small d), length-append (field (number_of d)) (ring_text (vec_items ring)))
+    omega (arith, ring_long ring.items few m, byte_long (number_of d) (number_small d), length-append (field (number_of d)) (ring_text ring.items))
 text_long (Ratio e h ring v) few m =
-    omega (arith, ring_long (vec_items ring) (omega (arith, ring.ok.0)) m.2, ratio_long e h m.0 m.1, length-append (ratio_text e h) (ring_text (vec_items ring)))
-text_long (Wholes v) few m = entries_long whole_text (vec_items v) (omega (arith, v.ok.0)) (λ k g h e. ((m k g h e).0, omega (arith, signed_long g.grade.value (m k g h e).1)))
-text_long (Units v) few m = entries_long unit_text (vec_items v) (omega (arith, v.ok.0)) (λ k g h e. ((m k g h e).0, omega (arith, signed_long g.grade.value (omega (arith, (m k g h e).1)))))
-text_long (Pairs v) few m = entries_long pair_text (vec_items v) (omega (arith, v.ok.0)) (λ k g h e. ((m k g h e).0, pair_long g.grade (m k g h e).1))
+    omega (arith, ring_long ring.items few m.2, ratio_long e h m.0 m.1, length-append (ratio_text e h) (ring_text ring.items))
+text_long (Wholes v) few m = entries_long whole_text v.items few (λ k g h e. ((m k g h e).0, omega (arith, signed_long g.grade.value (m k g h e).1)))
+text_long (Units v) few m = entries_long unit_text v.items few (λ k g h e. ((m k g h e).0, omega (arith, signed_long g.grade.value (omega (arith, (m k g h e).1)))))
+text_long (Pairs v) few m = entries_long pair_text v.items few (λ k g h e. ((m k g h e).0, pair_long g.grade (m k g h e).1))
 
 pub modest_printable : ModestPrintable
 modest_printable a few m =

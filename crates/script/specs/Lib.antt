@@ -3,6 +3,7 @@ pub mod Lines
 pub mod Cuts
 pub mod Puts
 pub mod Text
+pub mod Steps
 pub mod Statements
 pub mod Makes
 pub mod Judged

@@ -1,5 +1,5 @@
 -- What is proved of lines and of answers. Assumes nothing.
-use Rattle.std.specs.Prelude.{◌≡◌, ℕ, ◌<◌, ◌≤◌, true, List, length, vec_items, slice_index, slice_index_or}
+use Rattle.std.specs.Prelude.{◌≡◌, ℕ, ◌<◌, ◌≤◌, true, List, length, slice_index, slice_index_or}
 use Rattle.scale.specs.Wholes.{WholeExtent}
 use Rattle.scale.specs.Units.{UnitExtent}
 use Rattle.scale.specs.Pairs.{PairExtent}
@@ -33,11 +33,11 @@ ModestEntries {V} extent xs =
 abbrev pub Modest : Answer → Type 0
 Modest Taken = Unit {0}
 Modest (Declined d) = Unit {0}
-Modest (Forced d ring) = (k : ℕ) → slice_index (vec_items ring) k < 256
-Modest (Wholes v) = ModestEntries WholeExtent (vec_items v)
-Modest (Pairs v) = ModestEntries (PairExtent WholeExtent UnitExtent) (vec_items v)
-Modest (Units v) = ModestEntries UnitExtent (vec_items v)
-Modest (Ratio e h ring v) = (e < 256) × (h < 256) × ((k : ℕ) → slice_index (vec_items ring) k < 256)
+Modest (Forced d ring) = (k : ℕ) → slice_index ring.items k < 256
+Modest (Wholes v) = ModestEntries WholeExtent v.items
+Modest (Pairs v) = ModestEntries (PairExtent WholeExtent UnitExtent) v.items
+Modest (Units v) = ModestEntries UnitExtent v.items
+Modest (Ratio e h ring v) = (e < 256) × (h < 256) × ((k : ℕ) → slice_index ring.items k < 256)
 
 -- an answer of at most 64 such entries is printable
 abbrev pub ModestPrintable : Type 0

@@ -1,5 +1,5 @@
 -- The text of an answer, and what printing it does. Assumes nothing.
-use Rattle.std.specs.Prelude.{◌≡◌, ℕ, ◌<◌, ◌≤◌, Bool, true, false, cond, ◌&&◌, List, [], ◌++◌, length, drop, Ok, Err, vec_items, vec_len, codes, decimal, Result, ◌==◌, nat_le, slice_index_or}
+use Rattle.std.specs.Prelude.{◌≡◌, ℕ, ◌≤◌, Bool, true, false, cond, ◌&&◌, List, [], ◌++◌, length, drop, Ok, Err, codes, decimal, Result, ◌==◌, nat_le}
 use Rattle.std.specs.Fmt.{signed_decimal}
 use Rattle.std.specs.List.{flat_map}
 use Rattle.model.specs.Refusals.{number_of}
@@ -39,11 +39,11 @@ ring_text xs = cond (length xs == 0) [] (codes " ring" ++ flat_map field xs)
 abbrev pub text_of : Answer → List ℕ
 text_of Taken = codes "ok"
 text_of (Declined d) = codes "no" ++ field (number_of d)
-text_of (Forced d ring) = codes "no" ++ (field (number_of d) ++ ring_text (vec_items ring))
-text_of (Wholes v) = codes "ok" ++ flat_map (entry_text whole_text) (vec_items v)
-text_of (Pairs v) = codes "ok" ++ flat_map (entry_text pair_text) (vec_items v)
-text_of (Units v) = codes "ok" ++ flat_map (entry_text unit_text) (vec_items v)
-text_of (Ratio e h ring v) = codes "ok" ++ (ratio_text e h ++ ring_text (vec_items ring))
+text_of (Forced d ring) = codes "no" ++ (field (number_of d) ++ ring_text ring.items)
+text_of (Wholes v) = codes "ok" ++ flat_map (entry_text whole_text) v.items
+text_of (Pairs v) = codes "ok" ++ flat_map (entry_text pair_text) v.items
+text_of (Units v) = codes "ok" ++ flat_map (entry_text unit_text) v.items
+text_of (Ratio e h ring v) = codes "ok" ++ (ratio_text e h ++ ring_text ring.items)
 
 -- byte 10 ends the line
 abbrev pub line_of : Answer → List ℕ
@@ -53,11 +53,11 @@ line_of a = text_of a ++ codes "\n"
 abbrev pub entries_of : Answer → ℕ
 entries_of Taken = 0
 entries_of (Declined d) = 0
-entries_of (Forced d ring) = vec_len ring
-entries_of (Wholes v) = vec_len v
-entries_of (Pairs v) = vec_len v
-entries_of (Units v) = vec_len v
-entries_of (Ratio e h ring v) = vec_len ring
+entries_of (Forced d ring) = length ring.items
+entries_of (Wholes v) = length v.items
+entries_of (Pairs v) = length v.items
+entries_of (Units v) = length v.items
+entries_of (Ratio e h ring v) = length ring.items
 
 -- at most 64 records, on a line of at most 2,048 bytes
 abbrev pub printable : Answer → Bool
@@ -85,12 +85,3 @@ pub record LineDeclined (a : Answer) (before after : List ℕ) (d : Decline) : T
 abbrev pub Printed : Answer → List ℕ → List ℕ → Result ℕ Decline → Type 0
 Printed a before after (Ok n) = LinePut a before after n
 Printed a before after (Err d) = LineDeclined a before after d
-
--- an answer's line where it is printable, and nothing where it is not
-abbrev pub said : Answer → List ℕ
-said a = cond (printable a) (line_of a) []
-
--- the bytes are what is said of the answers: all their lines, where each of them is printable
-pub record AllSaid (answers : List Answer) (bytes : List ℕ) : Type 0 where
-  pub each : bytes ≡ flat_map said answers
-  pub whole : ((k : ℕ) → k < length answers → printable (slice_index_or answers k Taken) ≡ true) → bytes ≡ flat_map line_of answers

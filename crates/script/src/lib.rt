@@ -7,7 +7,7 @@ mod number;
 pub mod parse;
 pub mod print;
 pub mod run;
-pub mod say;
 mod spell;
+pub mod step;
 pub mod theorems;
 mod write;

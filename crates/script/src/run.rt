@@ -1,28 +1,62 @@
 // A whole script: from its bytes to the bytes of its answers.
-ghost use Rattle.std.specs.Prelude.{IfOk};
+ghost use Rattle.std.specs.Prelude.{◌≤◌, length, IfOk, OnOk};
+ghost use Rattle.layers.specs.FolderCalls.{account_of};
 ghost use Rattle.sheet.specs.Views.{meaning_of};
 ghost use Rattle.script.specs.Judged.{Opened, Judged};
 ghost use Rattle.script.specs.Makes.{new_sheet};
+ghost use Rattle.script.specs.Steps.{Lengthened, Left};
 
-use crate::lines::calls_in;
+use crate::lines::{bare, call_in, first_line};
 use crate::make::{Make, opening};
-use crate::say::say_all;
-use archive::replay::replay;
+use crate::step::step;
+use archive::desk::Desk;
 use listsheet::ListSheet;
 use sheet::bitsheet::BitSheet;
 use sheet::meaning::Sheet;
 use std::alloc::{AllocError, Global};
 
+// One line's call, and the line of its answer at the end. The line is first made in `text`.
+fn add_line<S: Sheet>(
+    desk: &mut Desk<S>,
+    line: &[u8],
+    text: &mut [u8],
+    out: &mut Vec<u8>,
+) -> Result<(), AllocError>
+    requires { 2048 ≤ length text.old }
+    ensures { OnOk result (Lengthened (account_of S.Sheet desk.old.folder) (account_of S.Sheet desk.new.folder) line.now out.old.items out.new.items) }
+{
+    match step(desk, line, text) {
+        Ok(n) => out.extend_from_slice(&text[..n]),
+        Err(_) => Ok(()),
+    }
+}
+
 // The opening is answered by `ok`, and then each line of the script, in a new folder over the sheet.
-fn run_on<S: Sheet + Drop>(heap: Global, sheet: S, script: &[u8]) -> Result<Vec<u8>, AllocError>
+pub fn run_on<S: Sheet + Drop>(heap: Global, sheet: S, script: &[u8]) -> Result<Vec<u8>, AllocError>
     ensures { IfOk result (λ v. Opened (meaning_of S.Sheet sheet) script.now v.items) }
 {
-    let calls = calls_in(heap, script)?;
-    let (_folder, answers) = replay(heap, sheet, &calls)?;
+    let mut desk = Desk::open(sheet);
     let mut out = Vec::from_slice(heap, b"ok\n")?;
-    let lines = say_all(heap, &answers)?;
-    out.extend_from_slice(&lines)?;
+    let mut text = [0; 2048];
+    let mut rest = script;
+    while let Some(line) = first_line(rest) {
+        add_line(&mut desk, line, &mut text, &mut out)?;
+        rest = &rest[line.len()..];
+    }
     Ok(out)
+}
+
+// The desk after all lines, with the folder that they leave. Their answers are let go.
+pub fn desk_after<S: Sheet + Drop>(sheet: S, lines: &[u8]) -> Desk<S>
+    ensures { Left (meaning_of S.Sheet sheet) lines.now (account_of S.Sheet result.folder) }
+{
+    let mut desk = Desk::open(sheet);
+    let mut rest = lines;
+    while let Some(line) = first_line(rest) {
+        let _ = desk.answer(call_in(bare(line)));
+        rest = &rest[line.len()..];
+    }
+    desk
 }
 
 // The script in a new folder over a new sheet of the make.

@@ -1,21 +1,17 @@
 // A pile of layers over a list sheet, gradings included, and a list sheet that is filled to its last place.
-use archive::replay::replay;
 use layers::folder::Folder;
 use layers::turn::Turn;
 use listsheet::ListSheet;
 use model::decline::Decline;
-use script::lines::calls_in;
-use script::say::say_all;
+use script::run::run_on;
 use sheet::meaning::Sheet;
 use std::io;
 use std::io::Write;
 
 // The lines of a script in a new folder over the sheet.
 fn over<S: Sheet + Drop>(rt: &HostRuntime, name: &str, sheet: S, lines: &[u8]) -> io::Result<()> {
-    let calls = calls_in(rt.alloc(), lines)?;
-    let (_folder, answers) = replay(rt.alloc(), sheet, &calls)?;
     println!(rt; "-- {name}")?;
-    rt.stdout().write_all(&say_all(rt.alloc(), &answers)?)
+    rt.stdout().write_all(&run_on(rt.alloc(), sheet, lines)?)
 }
 
 // Records 0 to 3 and the marks 0 1 and 1 2, in a folder that has set 3 aside.

@@ -2,9 +2,9 @@ use Rattle.archive.specs.Told.{plain}
 use Rattle.archive.proofs.Telling.{plain_number, with_ring}
 use Rattle.archive.proofs.refusal.refusal.Goals as goal
 
-pub returns-in_ok-from_slice-in-Circle : goal.returns-in_ok-from_slice-in-Circle
-returns-in_ok-from_slice-in-Circle c =
-    rw c.in-Circle.decline-is (with_ring c.args.decline c.in-Circle.k c.args.ring.now c.in_ok-from_slice-in-Circle.field-0 c.in-Circle.is c.requires c.in_ok-from_slice-in-Circle.ensures.items)
+pub returns-in-Circle : goal.returns-in-Circle
+returns-in-Circle c =
+    rw c.in-Circle.decline-is (with_ring c.args.decline c.in-Circle.k c.args.ring.now c.list_ring.result c.in-Circle.is c.requires.there c.list_ring.ensures)
 
 pub returns-in_default : goal.returns-in_default
 returns-in_default c =

@@ -11,6 +11,6 @@ returns-clause-graded g c =
     let k = g.V.Kind in
     let laws = g.met.V.Kind in
     let w = view_of g.S.Sheet c.args.sheet.now in
-    let t = k.counted c.args.thresholds in
-    outcome_so w (Best s w t) (k.asked w t) s.nothing (Forbids s w t) (k.forbids w t) (laws.given w c.args.thresholds) (laws.shown w c.args.thresholds)
+    let t = c.args.thresholds in
+    outcome_so w (Best s w t) (k.asked w t) s.nothing (Forbids s w t) (k.forbids w t) (laws.given w t) (laws.shown w t)
     (brought c.args.memory.now) (brought c.grade.new.memory) t c.grade.result (search rules)

@@ -16,4 +16,4 @@ returns-clause-found g c =
     let room : 64 ≤ length climbed.new.ring = omega arith in
     subst (RatioFound w before after) (sym c.answer.ensures)
     (when_true (suffices before) _ _ (sym c.if-not-is_enough.ensures)
-    (answered w before after climbed.new.ring climbed.result room climbed.ensures (ap (λ (xs : List ℕ). xs ++ rest) c.copy_from_slice.ensures.after)))
+    (answered w before after climbed.new.ring climbed.result room climbed.ensures.climbed (ap (λ (xs : List ℕ). xs ++ rest) c.copy_from_slice.ensures.after)))

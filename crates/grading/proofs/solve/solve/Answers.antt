@@ -1,7 +1,23 @@
-use Rattle.std.proofs.Common.{◌≡◌, ℕ, ◌-◌, ◌≤◌, length, take, sym, refl, subst, arith}
+use Rattle.std.proofs.Common.{◌≡◌, ℕ, ◌-◌, ◌≤◌, ◌++◌, List, length, take, drop, sym, refl, subst, arith, le_refl, rules}
+use Rattle.std.proofs.lemmas.Slice.{drop-append-drop}
 use Rattle.paths.specs.Bests.{Forbids}
 use Rattle.grading.proofs.Spelling.{enough_parts, best_made, others_kept, forbids_shown}
 use Rattle.grading.proofs.solve.solve.Goals as goal
+
+past : {X : Type 0} (ys rest xs : List X) → rest ≡ drop 4160 xs → length ys ≡ 4160 → drop 4160 (ys ++ rest) ≡ drop 4160 xs
+past ys rest xs e l = subst (λ (r : List _). drop 4160 (ys ++ r) ≡ drop 4160 xs) (sym e) (drop-append-drop 4160 xs ys 4160 (le_refl 4160) l)
+
+pub returns-in-Ok-clause-values : goal.returns-in-Ok-clause-values
+returns-in-Ok-clause-values g c = past (c.settle.new.old ++ (c.settle.new.new ++ c.split_at_mut-new.result.1.now)) c.split_at_mut-values.result.1.now c.args.values.now c.split_at_mut-values.ensures.back (grind arith)
+
+pub returns-in-Err-clause-values : goal.returns-in-Err-clause-values
+returns-in-Err-clause-values g c = past (c.settle.new.old ++ (c.settle.new.new ++ c.split_at_mut-new.result.1.now)) c.split_at_mut-values.result.1.now c.args.values.now c.split_at_mut-values.ensures.back (grind arith)
+
+pub returns-in-Ok-clause-bytes : goal.returns-in-Ok-clause-bytes
+returns-in-Ok-clause-bytes g c = past c.bytes-4-1.given.0 c.split_at_mut-bytes.result.1.now c.args.bytes.now c.split_at_mut-bytes.ensures.back (search rules)
+
+pub returns-in-Err-clause-bytes : goal.returns-in-Err-clause-bytes
+returns-in-Err-clause-bytes g c = past c.bytes-4-1.given.0 c.split_at_mut-bytes.result.1.now c.args.bytes.now c.split_at_mut-bytes.ensures.back (search rules)
 
 pub copy_values-requires : goal.copy_values-requires
 copy_values-requires g c =
@@ -13,8 +29,8 @@ write_ring-requires g c =
     let room : 64 ≤ length c.args.ring.now = (enough_parts (length c.args.grades.now) (length c.args.ring.now) (length c.args.values.now) (length c.args.bytes.now) c.requires.room).ring_64 in
     room
 
-pub returns-in-Ok : goal.returns-in-Ok
-returns-in-Ok g c w t spells =
+pub returns-in-Ok-clause-solved : goal.returns-in-Ok-clause-solved
+returns-in-Ok-clause-solved g c w t spells =
     let s = g.V.Scale in
     let laws = g.met.V.Scale.lawful in
     let p = c.args.problem.now in
@@ -24,8 +40,8 @@ returns-in-Ok g c w t spells =
       ring = refl;
     }
 
-pub returns-in-Err : goal.returns-in-Err
-returns-in-Err g c w t spells =
+pub returns-in-Err-clause-solved : goal.returns-in-Err-clause-solved
+returns-in-Err-clause-solved g c w t spells =
     let s = g.V.Scale in
     let laws = g.met.V.Scale.lawful in
     let p = c.args.problem.now in

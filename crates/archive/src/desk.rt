@@ -1,0 +1,78 @@
+// A folder and the memory of its gradings: calls are taken one by one, and each has its answer.
+ghost use Rattle.std.specs.Prelude.{◌≡◌};
+ghost use Rattle.sheet.specs.Views.{meaning_of};
+ghost use Rattle.layers.specs.Folders.{opened};
+ghost use Rattle.layers.specs.FolderCalls.{account_of};
+ghost use Rattle.archive.specs.Right.{Tells};
+ghost use Rattle.archive.specs.Following.{Tidy, Tended, Answered};
+
+use crate::answer::Answer;
+use crate::call::Call;
+use crate::grades::{loose_answer, strict_answer, unit_answer};
+use crate::ratio::ratio_answer;
+use crate::room::Rooms;
+use layers::folder::Folder;
+use model::decline::Decline;
+use sheet::meaning::Sheet;
+
+impl From<Result<(), Decline>> for Answer {
+    ghost from_gives = { Tells };
+
+    fn from(made: Result<(), Decline>) -> Answer {
+        match made {
+            Ok(()) => Answer::Taken,
+            Err(decline) => Answer::Declined(decline),
+        }
+    }
+}
+
+// One call: what it makes of the folder's account, and its answer.
+#[tactic(auto, using(crate::proofs::Following::enter_answered, crate::proofs::Following::mark_answered, crate::proofs::Following::strike_answered, crate::proofs::Following::aside_answered, crate::proofs::Following::back_answered, crate::proofs::Following::loose_answered, crate::proofs::Following::strict_answered, crate::proofs::Following::units_answered, crate::proofs::Following::ratio_answered, crate::proofs::Following::wrong_answered))]
+fn answer_in<S: Sheet>(folder: &mut Folder<S>, rooms: &mut Rooms, call: Call) -> Answer
+    ensures { Tended (account_of S.Sheet folder.old) call (account_of S.Sheet folder.new) result }
+{
+    match call {
+        Call::Enter(u) => folder.enter(u).into(),
+        Call::Mark(u, v) => folder.mark(u, v).into(),
+        Call::Strike(u, v) => folder.strike(u, v).into(),
+        Call::SetAside(u) => folder.set_aside(u).into(),
+        Call::BringBack(u) => folder.bring_back(u).into(),
+        Call::Loose(thresholds) => loose_answer(folder, thresholds, &mut rooms.wholes.lend()),
+        Call::Strict(thresholds) => strict_answer(folder, thresholds, &mut rooms.pairs.lend()),
+        Call::Unit => unit_answer(folder, &mut rooms.units.lend()),
+        Call::Ratio => ratio_answer(folder, &mut rooms.wholes.lend()),
+        Call::Wrong => Answer::Declined(Decline::WrongLine),
+    }
+}
+
+#[derive(Drop)]
+pub struct Desk<S: Sheet> {
+    folder: Folder<S>,
+    rooms: Rooms,
+    ghost tidy: { Tidy (account_of S.Sheet folder) },
+}
+
+impl<S: Sheet> Desk<S> {
+    // A new folder over the sheet.
+    pub fn open(sheet: S) -> Desk<S>
+        ensures { account_of S.Sheet result.folder ≡ opened (meaning_of S.Sheet sheet) }
+    {
+        Desk {
+            folder: Folder::new(sheet),
+            rooms: Rooms::new(),
+        }
+    }
+
+    pub fn folder(&self) -> &Folder<S>
+        ensures { result.now ≡ self.now.folder }
+    {
+        &self.folder
+    }
+
+    // One call: what it makes of the folder's account, and its answer.
+    pub fn answer(&mut self, call: Call) -> Answer
+        ensures { Answered (account_of S.Sheet self.old.folder) call (account_of S.Sheet self.new.folder) result }
+    {
+        answer_in(&mut self.folder, &mut self.rooms, call)
+    }
+}
