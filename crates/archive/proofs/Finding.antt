@@ -1,5 +1,5 @@
 -- From the outcome of a call for the least ratio to its answer. Assumes nothing.
-use Rattle.std.proofs.Common.{◌≡◌, ℕ, ◌≤◌, Bool, true, take, Ok, Err, MatchBool, Result, sym, subst}
+use Rattle.std.proofs.Common.{◌≡◌, ℕ, ◌≤◌, Bool, true, take, Ok, Err, MatchBool, Result, ℤ, sym, subst}
 use Rattle.arrayvec.specs.ArrayVec.{ArrayVec}
 use Rattle.model.specs.declared.decline.Decline.{Decline}
 use Rattle.model.specs.Refusals.{ring_length}
@@ -21,12 +21,12 @@ module _ (w : View) (before after : Memory Whole) (room : suffices before ≡ tr
   pub enough : (r : Result Ratio Decline) → RatioFound w before after r → RatioOrCircle w before after r
   enough r o = subst (λ (b : Bool). MatchBool b (RatioOrCircle w before after r) (Declined 1 before after (valueless r))) room o
 
-  pub ratio_told : (r : Ratio) (ring : ArrayVec ℕ) (v : ArrayVec (Graded Whole)) → RatioFound w before after (Ok r)
-      → ring.items ≡ take r.ring after.ring → v.items ≡ entries_below w (grade_at after.grades) 64
+  pub ratio_told : (r : Ratio) (ring : ArrayVec ℕ) (v : ArrayVec (Graded ℤ)) → RatioFound w before after (Ok r)
+      → ring.items ≡ take r.ring after.ring → v.items ≡ entries_below w (λ u. (grade_at after.grades u).value) 64
       → RatioTold w (Ratio-answer r.marks r.hops ring v)
   ratio_told r ring v o shown list =
       let given = enough (Ok r) o in
-      found r.marks r.hops ring v (grade_at after.grades) (subst (LeastRatio w r.marks r.hops) (sym shown) given.least) given.graded.best list
+      found r.marks r.hops ring v (λ u. (grade_at after.grades u).value) (subst (LeastRatio w r.marks r.hops) (sym shown) given.least) given.graded.best list
 
   pub circle_short : (d : Decline) → RatioFound w before after (Err d) → ring_length d ≤ 64
   circle_short d o = (enough (Err d) o).1.short

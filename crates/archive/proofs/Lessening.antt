@@ -2,6 +2,8 @@
 use Rattle.std.proofs.Common.{◌≡◌, ℕ, zero, suc, ◌+◌, ◌-◌, ◌*◌, ◌≤◌, Bool, true, false, cond, ◌&&◌, eqb, List, length, get_or, take, sym, refl, ◌∙◌, subst, ap₂, add-zero, add-suc, arith}
 use Rattle.model.specs.Sets.{put}
 use Rattle.model.specs.Views.{View, Within}
+use Rattle.model.specs.Rings.{Circle}
+use Rattle.model.specs.Ratios.{LeastRatio}
 use Rattle.model.proofs.Ratios.{fewer_circles, no_greater_ratio}
 use Rattle.sheet.specs.declared.state.State.TheVariants.{Aside}
 use Rattle.sheet.specs.States.{is_standing}
@@ -9,12 +11,9 @@ use Rattle.sheet.specs.Calls.{after_check}
 use Rattle.layers.specs.Folders.{Account, aside_check, set_aside}
 use Rattle.archive.specs.declared.call.Call.{Call}
 use Rattle.archive.specs.declared.call.Call.TheVariants.{Enter}
-use Rattle.archive.specs.declared.answer.Answer.{Answer}
-use Rattle.archive.specs.declared.answer.Answer.TheVariants.{Taken}
 use Rattle.archive.specs.Accounts.{told, stands_in, next, run}
-use Rattle.archive.specs.Told.{RatioTold, circled, found}
-use Rattle.archive.specs.Right.{Right, AllRight}
-use Rattle.archive.specs.Lessening.{AsideOrIdle, aside, idle, OnlyAside, NoGreater, marks_told, hops_told, Lessens}
+use Rattle.archive.specs.Histories.{AllRightBy}
+use Rattle.archive.specs.Lessening.{AsideOrIdle, aside, idle, OnlyAside, NoGreater, LessensBy}
 use Rattle.archive.proofs.Runs.{run_next}
 
 within_same : (w : View) → Within w w
@@ -75,19 +74,24 @@ module _ (a : Account) (calls : List Call) where
         ratio = λ e h f k xs ys first second. no_greater_ratio w v f k e h ys xs less second first;
       }
 
--- two answers that are right for views of which the second has no greater ratio
-answers_less : (v w : View) (x y : Answer) → RatioTold v x → RatioTold w y → NoGreater v w → marks_told y * hops_told x ≤ marks_told x * hops_told y
-answers_less v w x y (found e h ring list g least best is) (found f k ring₂ list₂ g₂ least₂ best₂ is₂) less = less.ratio e h f k _ _ least least₂
-answers_less v w x y (found e h ring list g least best is) (circled d xs n long c) less = absurd (less.circleless least.circleless _ c)
-answers_less v w x y (circled d xs n long c) (found f k ring₂ list₂ g₂ least₂ best₂ is₂) less = omega arith
-answers_less v w x y (circled d xs n long c) (circled d₂ ys n₂ long₂ c₂) less = omega arith
+-- a ratio of what stands in w: the least, or 1 to 0 for a circle
+pub data RatioOf (w : View) : ℕ → ℕ → Type 0 where
+  least : {e h : ℕ} (xs : List ℕ) → LeastRatio w e h xs → RatioOf w e h
+  circle : (xs : List ℕ) → Circle w xs → RatioOf w 1 0
 
-pub lessens : (a : Account) (calls : List Call) (answers : List Answer) → AllRight a calls answers → Lessens a calls answers
-lessens a calls answers right = record {
-  moments = no_greater a calls;
-  told = λ i j l h first second only.
-      answers_less _ _ _ _
-      (subst (λ (c : Call). Right (run a (take i calls)) c (get_or answers i Taken)) first (right.each i (omega arith)))
-      (subst (λ (c : Call). Right (run a (take j calls)) c (get_or answers j Taken)) second (right.each j h))
-      (no_greater a calls i j l (omega arith) only);
-}
+-- of two views of which the second has no greater ratio
+no_greater_of : (v w : View) (e h f k : ℕ) → RatioOf v e h → RatioOf w f k → NoGreater v w → f * h ≤ e * k
+no_greater_of v w e h f k (least xs p) (least ys q) less = less.ratio e h f k xs ys p q
+no_greater_of v w e h f k (least xs p) (circle ys c) less = absurd (less.circleless p.circleless ys c)
+no_greater_of v w e h f k (circle xs c) (least ys q) less = omega arith
+no_greater_of v w e h f k (circle xs c) (circle ys d) less = omega arith
+
+-- where what is right tells a ratio of what stands, settings aside alone made none greater
+module _ {X : Type 0} (right : Account → Call → X → Type 0) (tells : X → ℕ → ℕ → Type 0) (none : X)
+    (of : (a : Account) (c : Call) (x : X) (e h : ℕ) → right a c x → tells x e h → RatioOf (stands_in a) e h) where
+  pub lessens : (a : Account) (calls : List Call) (given : List X) → AllRightBy right none a calls given → LessensBy tells none a calls given
+  lessens a calls given all = record {
+    moments = no_greater a calls;
+    told = λ i j e h f k l before only first second.
+        no_greater_of _ _ e h f k (of _ _ _ e h (all.each i (omega arith)) first) (of _ _ _ f k (all.each j before) second) (no_greater a calls i j l (omega arith) only);
+  }

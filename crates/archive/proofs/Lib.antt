@@ -7,3 +7,5 @@ pub mod Tidying
 pub mod Following
 pub mod Lessening
 pub mod Histories
+pub mod Replaying
+pub mod Direct

@@ -65,27 +65,36 @@ ringless WrongLine e = omega arith
 ringless (Circle k) e = absurd (omega (arith, e))
 ringless (Forbidden k) e = absurd (omega (arith, e))
 
-module _ {V : Type 0} (w : View) (t : Thresholds) (asked : (ℕ → V) → Type 0) (none : V) (forbids : List ℕ → Type 0) (give : ArrayVec (Graded V) → Answer) (before after : Memory V) (room : suffices before ≡ true) where
+module _ {V : Type 0} (w : View) (t : Thresholds) (asked : (ℕ → V) → Type 0) (none : V) (forbids : List ℕ → Type 0) (before after : Memory V) (room : suffices before ≡ true) where
   -- with enough memory: the limits first, and then the grades or the ring
   inside : (r : Result (Unit {0}) Decline) → Outcome w t asked none forbids before after r → MatchBool (within_limits t) (Solved w asked none forbids before after r) (Declined 11 before after r)
   inside r o = subst (λ (b : Bool). MatchBool b (MatchBool (within_limits t) (Solved w asked none forbids before after r) (Declined 11 before after r)) (Declined 1 before after r)) room o
 
-  pub told_given : (v : ArrayVec (Graded V)) → Outcome w t asked none forbids before after (Ok tt) → v.items ≡ entries_below w (λ u. get_or after.grades u none) 64 → GradesTold w t asked forbids give (give v)
-  told_given v o e = go (within_limits t) refl (inside (Ok tt) o)
+  -- a grading that is taken leaves the grades asked for, at thresholds within the limits
+  pub taken : Outcome w t asked none forbids before after (Ok tt) → (within_limits t ≡ true) × Given w asked none before after
+  taken o = go (within_limits t) refl (inside (Ok tt) o)
     where
-      go : (b : Bool) → within_limits t ≡ b → MatchBool b (Given w asked none before after) (Declined 11 before after (Ok tt)) → GradesTold w t asked forbids give (give v)
-      go true l s = given v (λ u. get_or after.grades u none) l s.grades e
+      go : (b : Bool) → within_limits t ≡ b → MatchBool b (Given w asked none before after) (Declined 11 before after (Ok tt)) → (within_limits t ≡ true) × Given w asked none before after
+      go true l s = (l, s)
       go false l s = absurd (omega (arith, s.answer))
 
-  pub told_refused : (d : Decline) (x : Answer) → Outcome w t asked none forbids before after (Err d) → Refused d (take (ring_length d) after.ring) x → GradesTold w t asked forbids give x
-  told_refused d x o = go (within_limits t) refl (inside (Err d) o) x
-    where
-      go : (b : Bool) → within_limits t ≡ b → MatchBool b ((number_of d ≡ 13) × Shown forbids (ring_length d) before after) (Declined 11 before after (Err d)) → (y : Answer) → Refused d (take (ring_length d) after.ring) y → GradesTold w t asked forbids give y
-      go true l s y (plain no-circle no-ring) = absurd (no-ring s.0)
-      go true l s y (forced v is e long) = told.forced d v s.0 long l (subst forbids (sym e) s.1.ring)
-      go false l s y (plain no-circle no-ring) = outside d s.answer l
-      go false l s y (forced v (inl is) e long) = absurd (omega (arith, s.answer))
-      go false l s y (forced v (inr is) e long) = absurd (omega (arith, s.answer))
+  -- in numbers, as answers have them
+  module _ {G : Type 0} (shown : V → G) (told_asked : (ℕ → G) → Type 0) (give : ArrayVec (Graded G) → Answer) where
+    pub told_given : ((g : ℕ → V) → asked g → told_asked (λ u. shown (g u))) → (v : ArrayVec (Graded G)) → Outcome w t asked none forbids before after (Ok tt)
+        → v.items ≡ entries_below w (λ u. shown (get_or after.grades u none)) 64 → GradesTold w t told_asked forbids give (give v)
+    told_given same v o e =
+        let all = taken o in
+        given v (λ u. shown (get_or after.grades u none)) all.0 (same (λ u. get_or after.grades u none) all.1.grades) e
+
+    pub told_refused : (d : Decline) (x : Answer) → Outcome w t asked none forbids before after (Err d) → Refused d (take (ring_length d) after.ring) x → GradesTold w t told_asked forbids give x
+    told_refused d x o = go (within_limits t) refl (inside (Err d) o) x
+      where
+        go : (b : Bool) → within_limits t ≡ b → MatchBool b ((number_of d ≡ 13) × Shown forbids (ring_length d) before after) (Declined 11 before after (Err d)) → (y : Answer) → Refused d (take (ring_length d) after.ring) y → GradesTold w t told_asked forbids give y
+        go true l s y (plain no-circle no-ring) = absurd (no-ring s.0)
+        go true l s y (forced v is e long) = told.forced d v s.0 long l (subst forbids (sym e) s.1.ring)
+        go false l s y (plain no-circle no-ring) = outside d s.answer l
+        go false l s y (forced v (inl is) e long) = absurd (omega (arith, s.answer))
+        go false l s y (forced v (inr is) e long) = absurd (omega (arith, s.answer))
 
   pub refusal_short : (d : Decline) → Outcome w t asked none forbids before after (Err d) → ring_length d ≤ 64
   refusal_short d o = go (within_limits t) (inside (Err d) o)

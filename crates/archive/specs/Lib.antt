@@ -1,7 +1,10 @@
+pub mod Shown
 pub mod Entries
 pub mod Told
 pub mod Accounts
-pub mod Right
 pub mod Lessening
-pub mod Following
 pub mod Histories
+pub mod Right
+pub mod Following
+pub mod Replays
+pub mod Direct

@@ -1,5 +1,5 @@
 -- The right answers to calls, each by what the account tells when it is asked. Assumes nothing.
-use Rattle.std.specs.Prelude.{◌≡◌, ℕ, ◌<◌, List, length, take, Ok, Err, Result, slice_index_or}
+use Rattle.std.specs.Prelude.{◌≡◌, ℕ, List, Ok, Err, Result}
 use Rattle.model.specs.declared.decline.Decline.{Decline}
 use Rattle.model.specs.Refusals.{number_of}
 use Rattle.sheet.specs.Checks.{enter_check, mark_check, strike_check}
@@ -9,7 +9,8 @@ use Rattle.archive.specs.declared.call.Call.TheVariants.{Enter, Mark, Strike, Se
 use Rattle.archive.specs.declared.answer.Answer.{Answer}
 use Rattle.archive.specs.declared.answer.Answer.TheVariants.{Taken, Declined}
 use Rattle.archive.specs.Told.{LooseTold, StrictTold, UnitTold, RatioTold}
-use Rattle.archive.specs.Accounts.{told, stands_in, run}
+use Rattle.archive.specs.Accounts.{told, stands_in}
+use Rattle.archive.specs.Histories.{AllRightBy}
 
 -- the answer that has no more to tell than a result does
 abbrev pub Tells : {X : Type 0} → Result X Decline → Answer → Type 0
@@ -34,6 +35,5 @@ Right a Ratio x = RatioTold (stands_in a) x
 Right a Wrong x = Plain 17 x
 
 -- one answer to each call, right by the account after the calls before it
-pub record AllRight (a : Account) (calls : List Call) (answers : List Answer) : Type 0 where
-  pub long : length answers ≡ length calls
-  pub each : (k : ℕ) → k < length calls → Right (run a (take k calls)) (slice_index_or calls k (Enter 0)) (slice_index_or answers k Taken)
+abbrev pub AllRight : Account → List Call → List Answer → Type 0
+AllRight = AllRightBy Right Taken

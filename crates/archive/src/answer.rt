@@ -1,33 +1,37 @@
-// What a call is answered by.
+// What a call is answered by. Its lists lie in the answer itself: an answer needs no heap.
 use arrayvec::ArrayVec;
 use model::decline::Decline;
-use scale::pair::Pair;
-use scale::unit::Unit;
-use scale::whole::Whole;
 
-// One record and its grade.
+// A strict grade a, b: it stands for 128*a + b to the denominator 128. b is minus the marks of a walk of at most 64 steps.
 #[derive(Clone, Copy, Default)]
-pub struct Graded<V> {
-    pub record: u8,
-    pub grade: V,
+pub struct StrictGrade {
+    pub a: i64,
+    pub b: i8,
 }
 
-// One case for each form of a line. What it lists lies in the answer itself, so that an answer needs no heap.
+// One record, below 64, and its grade.
+#[derive(Clone, Copy, Default)]
+pub struct Graded<G> {
+    pub record: u8,
+    pub grade: G,
+}
+
+// One case for each form of a line. At most 64 records stand, and so no list is longer.
 #[derive(Drop)]
 pub enum Answer {
     Taken,
     Declined(Decline),
     // declined, and the ring that forces it
     Forced(Decline, ArrayVec<u8, 64>),
-    // the standing records rising, each with its grade
-    Wholes(ArrayVec<Graded<Whole>, 64>),
-    Pairs(ArrayVec<Graded<Pair<Whole, Unit>>, 64>),
-    Units(ArrayVec<Graded<Unit>, 64>),
+    // the standing records rising, each with its grade: loose, strict, and on the unit scale
+    Wholes(ArrayVec<Graded<i64>, 64>),
+    Pairs(ArrayVec<Graded<StrictGrade>, 64>),
+    Units(ArrayVec<Graded<i64>, 64>),
     // the least ratio, the ring that shows it (none for 0 to 1), and the grades for t1 = hops and t2 = marks
     Ratio {
         marks: u8,
         hops: u8,
         ring: ArrayVec<u8, 64>,
-        grades: ArrayVec<Graded<Whole>, 64>,
+        grades: ArrayVec<Graded<i64>, 64>,
     },
 }

@@ -3,16 +3,19 @@ ghost use Rattle.std.specs.Prelude.{◌≡◌};
 ghost use Rattle.sheet.specs.Views.{meaning_of};
 ghost use Rattle.layers.specs.Folders.{opened};
 ghost use Rattle.layers.specs.FolderCalls.{account_of};
-ghost use Rattle.archive.specs.Right.{Tells};
+ghost use Rattle.archive.specs.Right.{Tells, Right};
 ghost use Rattle.archive.specs.Following.{Tidy, Tended, Answered};
 
 use crate::answer::Answer;
 use crate::call::Call;
 use crate::grades::{loose_answer, strict_answer, unit_answer};
 use crate::ratio::ratio_answer;
-use crate::room::Rooms;
+use grading::memory::Room;
 use layers::folder::Folder;
 use model::decline::Decline;
+use scale::pair::Pair;
+use scale::unit::Unit;
+use scale::whole::Whole;
 use sheet::meaning::Sheet;
 
 impl From<Result<(), Decline>> for Answer {
@@ -26,10 +29,28 @@ impl From<Result<(), Decline>> for Answer {
     }
 }
 
+// Memory for each kind of grading.
+#[derive(Drop)]
+struct Rooms {
+    wholes: Room<Whole>,
+    pairs: Room<Pair<Whole, Unit>>,
+    units: Room<Unit>,
+}
+
+impl Rooms {
+    fn new() -> Rooms {
+        Rooms {
+            wholes: Room::new(),
+            pairs: Room::new(),
+            units: Room::new(),
+        }
+    }
+}
+
 // One call: what it makes of the folder's account, and its answer.
 #[tactic(auto, using(crate::proofs::Following::enter_answered, crate::proofs::Following::mark_answered, crate::proofs::Following::strike_answered, crate::proofs::Following::aside_answered, crate::proofs::Following::back_answered, crate::proofs::Following::loose_answered, crate::proofs::Following::strict_answered, crate::proofs::Following::units_answered, crate::proofs::Following::ratio_answered, crate::proofs::Following::wrong_answered))]
 fn answer_in<S: Sheet>(folder: &mut Folder<S>, rooms: &mut Rooms, call: Call) -> Answer
-    ensures { Tended (account_of S.Sheet folder.old) call (account_of S.Sheet folder.new) result }
+    ensures { Tended Right (account_of S.Sheet folder.old) call (account_of S.Sheet folder.new) result }
 {
     match call {
         Call::Enter(u) => folder.enter(u).into(),

@@ -9,5 +9,4 @@ mod listing;
 mod ratio;
 mod refusal;
 pub mod replay;
-mod room;
 pub mod theorems;

@@ -1,5 +1,5 @@
 // A list of calls on a new folder over a sheet of any make, with all their answers.
-ghost use Rattle.archive.specs.Histories.{ReplayedIn};
+ghost use Rattle.archive.specs.Replays.{ReplayedIn};
 
 use crate::answer::Answer;
 use crate::call::Call;

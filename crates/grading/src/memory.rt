@@ -1,5 +1,5 @@
 // The memory that a caller brings to a grading.
-ghost use Rattle.std.specs.Prelude.{◌≡◌, ◌≤◌, true, length, take, replicate};
+ghost use Rattle.std.specs.Prelude.{◌≡◌, ◌≤◌, true, length, take};
 ghost use Rattle.grading.specs.Outcomes.{memory, brought, suffices};
 
 use crate::forbidden::Forbidden;
@@ -48,7 +48,6 @@ pub struct Room<V> {
 impl<V: Scale> Room<V> {
     // All places hold nothing.
     pub fn new() -> Room<V>
-        ensures { memory result.grades result.ring result.values result.bytes ≡ memory (replicate 64 V.nothing) (replicate 64 0) (replicate 4160 V.nothing) (replicate 4160 0) }
     {
         Room {
             grades: [V::nothing(); 64],

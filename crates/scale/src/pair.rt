@@ -5,7 +5,7 @@ ghost use Rattle.scale.specs.PairLaws.{pair_laws};
 use crate::scale::Scale;
 use model::thresholds::Thresholds;
 
-#[derive(Clone, Copy, Debug, Default, PartialEq, Eq)]
+#[derive(Clone, Copy, Debug, PartialEq, Eq)]
 pub struct Pair<X, Y> {
     pub first: X,
     pub second: Y,

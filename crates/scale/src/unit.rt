@@ -7,7 +7,7 @@ ghost use Rattle.scale.specs.Numbers.{unit_laws};
 use crate::scale::Scale;
 use model::thresholds::Thresholds;
 
-#[derive(Clone, Copy, Debug, Default, PartialEq, Eq)]
+#[derive(Clone, Copy, Debug, PartialEq, Eq)]
 pub struct Unit {
     pub value: i64,
 }

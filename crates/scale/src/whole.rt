@@ -6,7 +6,7 @@ ghost use Rattle.scale.specs.Numbers.{whole_laws};
 use crate::scale::Scale;
 use model::thresholds::Thresholds;
 
-#[derive(Clone, Copy, Debug, Default, PartialEq, Eq)]
+#[derive(Clone, Copy, Debug, PartialEq, Eq)]
 pub struct Whole {
     pub value: i64,
 }

@@ -7,7 +7,9 @@ use Rattle.archive.specs.declared.call.Call.{Call}
 use Rattle.archive.specs.declared.call.Call.TheVariants.{Enter}
 use Rattle.archive.specs.declared.answer.Answer.{Answer}
 use Rattle.archive.specs.Histories.{History, begun}
-use Rattle.archive.proofs.Histories.{one_more, histories_replay}
+use Rattle.archive.specs.Right.{Right}
+use Rattle.archive.proofs.Histories.{one_more}
+use Rattle.archive.proofs.Replaying.{replayed}
 use Rattle.archive.proofs.replay.replay.Goals as goal
 
 pub loop-i-init : goal.loop-i-init
@@ -24,8 +26,8 @@ loop-i-preserved g c =
     let inv = c.loop-i.invariant in
     let call = get_or cs i (Enter 0) in
     let here : i < length xs = omega arith in (
-      subst (λ (ds : List Call). History a ds (take (i + 1) (set xs i x)) d) (sym (take_more cs i (Enter 0) c.loop-i-test.true))
-          (subst (λ (ys : List Answer). History a (take i cs ++ (call ∷ [])) ys d) (sym (take_more_set xs i x here)) (one_more call x inv.0 c.answer.ensures)),
+      subst (λ (ds : List Call). History Right a ds (take (i + 1) (set xs i x)) d) (sym (take_more cs i (Enter 0) c.loop-i-test.true))
+          (subst (λ (ys : List Answer). History Right a (take i cs ++ (call ∷ [])) ys d) (sym (take_more_set xs i x here)) (one_more Right call x inv.0 c.answer.ensures)),
       drop-set-lt (length cs) xs i x c.loop-i-test.true ∙ inv.1,
     )
 
@@ -38,9 +40,9 @@ returns g c =
     let a = account_of g.S.Sheet c.open-desk.result.folder in
     let b = account_of g.S.Sheet folder in
     let i : c.loop-i.i ≡ length cs = omega arith in
-    let each = subst (λ (n : ℕ). History a (take n cs) (take n xs) b) i inv.0 in
-    let all = subst (λ (ds : List Call). History a ds (take (length cs) xs) b) (take-length cs) each in (
+    let each = subst (λ (n : ℕ). History Right a (take n cs) (take n xs) b) i inv.0 in
+    let all = subst (λ (ds : List Call). History Right a ds (take (length cs) xs) b) (take-length cs) each in (
       omega arith,
-      histories_replay g.S.Sheet c.args.sheet c.loop-i.desk cs (take (length cs) xs) (subst (λ (e : Account). History e cs (take (length cs) xs) b) c.open-desk.ensures all),
+      replayed g.S.Sheet c.args.sheet c.loop-i.desk cs (take (length cs) xs) (subst (λ (e : Account). History Right e cs (take (length cs) xs) b) c.open-desk.ensures all),
       inv.1,
     )
