@@ -1,5 +1,5 @@
 -- From the outcome of writing a release to what is handed out. Assumes nothing.
-use Rattle.std.proofs.Common.{◌≡◌, ℕ, ◌≤◌, Bool, true, List, length, take, drop, Ok, Err, MatchBool, Result, sym, ap, ◌∙◌, subst, arith, length-append, length-take-le}
+use Rattle.std.proofs.Common.{◌≡◌, ℕ, ◌≤◌, Bool, true, List, length, take, drop, Ok, Err, MatchBool, Result, Vec, sym, ap, ◌∙◌, subst, arith, length-append, length-take-le}
 use Rattle.std.proofs.lemmas.List.{take_at}
 use Rattle.model.specs.declared.decline.Decline.{Decline}
 use Rattle.model.specs.Refusals.{ring_length}
@@ -11,7 +11,14 @@ use Rattle.reading.specs.declared.release.Release.{Release}
 use Rattle.reading.specs.Reads.{Reads}
 use Rattle.release.specs.Grades.{grade_number}
 use Rattle.release.specs.Writing.{put, short, release_of, Writes, found, circled, MemoryRefused, Released}
-use Rattle.dispatch.specs.Dispatches.{ReleaseOf, CircleIn}
+use Rattle.std.specs.declared.alloc.Global.{Global}
+use Rattle.layers.specs.Folders.{opened}
+use Rattle.archive.specs.Accounts.{stands_in, run}
+use Rattle.script.specs.Makes.{new_sheet}
+use Rattle.dispatch.specs.declared.refusal.Refusal.{Refusal}
+use Rattle.dispatch.specs.declared.refusal.Refusal.TheVariants.{Declined}
+use Rattle.dispatch.specs.Dispatches.{ReleaseOf, CircleIn, DispatchedInto, named, unnamed, Handed, Dispatched, opening, wrong}
+use Rattle.dispatch.specs.Dispatches as of
 
 module _ (w : View) (before after : Memory Whole) (out_before out_after : List ℕ) (room : suffices before ≡ true) where
   -- with enough memory: written, or a circle
@@ -52,3 +59,18 @@ module _ (w : View) (before after : Memory Whole) (out_before out_after : List �
         circle = shown.ring;
         long = omega (arith, length-take-le (ring_length d) after.ring (omega (arith, shown.short, ring)));
       }
+
+-- the same of what stands after a script
+module _ (script : List ℕ) (before after : Memory Whole) (out_before out_after : List ℕ) (room : suffices before ≡ true) where
+  -- n bytes at the front are the release, whatever is made of them
+  pub script_written : (n : ℕ) → DispatchedInto script before after out_before out_after (Ok n)
+      → (n ≤ length out_after) × ((r : Result (Vec ℕ Global) Refusal) → ((w : View) → ReleaseOf w (take n out_after) → Handed w r) → Dispatched script r)
+  script_written n (named m lines first t) =
+      let w = stands_in (run (opened (new_sheet m)) t.calls) in
+      let all = handed w before after out_before out_after room n t.read.0 t.released t.read.1 in
+      (all.0, λ r f. opening m lines first (of.handed t.calls t.spoken (f w all.1)))
+
+  pub script_refused : (d : Decline) → 8453 ≤ length out_before → 64 ≤ length after.ring → DispatchedInto script before after out_before out_after (Err d) → Dispatched script (Err (Declined d))
+  script_refused d wide ring (named m lines first t) =
+      opening m lines first (of.handed t.calls t.spoken (refused (stands_in (run (opened (new_sheet m)) t.calls)) before after out_before out_after room d wide ring t.released))
+  script_refused d wide ring (unnamed b other number same kept) = wrong b other number

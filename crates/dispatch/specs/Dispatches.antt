@@ -1,12 +1,15 @@
 -- What is handed out after a script. Assumes nothing.
-use Rattle.std.specs.Prelude.{◌≡◌, ℕ, List, length, ℤ, vec_items, Vec, Ok, Err, Result}
+use Rattle.std.specs.Prelude.{◌≡◌, ℕ, List, length, take, ℤ, vec_items, Vec, IfOk, Ok, Err, Result}
 use Rattle.std.specs.declared.alloc.Global.{Global}
 use Rattle.model.specs.declared.decline.Decline.{Decline}
 use Rattle.model.specs.Refusals.{number_of, ring_length}
 use Rattle.model.specs.Rings.{Circle}
 use Rattle.model.specs.Ratios.{thresholds_at, LeastRatio}
 use Rattle.model.specs.Views.{View}
+use Rattle.scale.specs.declared.whole.Whole.{Whole}
 use Rattle.sheet.specs.Meanings.{Meaning}
+use Rattle.grading.specs.Outcomes.{Memory}
+use Rattle.release.specs.Writing.{Released}
 use Rattle.layers.specs.Folders.{opened}
 use Rattle.paths.specs.Numbers.{BestLoose}
 use Rattle.form.specs.Laid.{laid_out}
@@ -41,11 +44,24 @@ pub record CircleIn (w : View) (d : Decline) : Type 0 where
   pub circle : Circle w ring
   pub long : ring_length d ≡ length ring
 
--- the release of what stands in w, or declined by its circle; or the heap had no room
+-- what is written of what stands by the plain account after the calls of the lines, in a new folder over a sheet that means m; and the
+-- reader takes it
+pub record WrittenAfter (m : Meaning) (lines : List ℕ) (before after : Memory Whole) (out_before out_after : List ℕ) (r : Result ℕ Decline) : Type 0 where
+  pub calls : List Call
+  pub spoken : Spoken (lines_of lines) calls
+  pub released : Released (stands_in (run (opened m) calls)) before after out_before out_after r
+  pub read : IfOk r (λ n. (release : Release) × Reads (take n out_after) (Ok release))
+
+-- a script that opens with a make, and any other, which is declined by 17 and keeps all
+pub data DispatchedInto (script : List ℕ) (before after : Memory Whole) (out_before out_after : List ℕ) : Result ℕ Decline → Type 0 where
+  named : {r : Result ℕ Decline} (m : Make) (lines : List ℕ) → Opening script m lines → WrittenAfter (new_sheet m) lines before after out_before out_after r → DispatchedInto script before after out_before out_after r
+  unnamed : (d : Decline) → NoOpening script → number_of d ≡ 17 → after ≡ before → out_after ≡ out_before → DispatchedInto script before after out_before out_after (Err d)
+
+-- the release of what stands in w, or declined by its circle; or a release was made, and the heap had no room for it
 abbrev pub Handed : View → Result (Vec ℕ Global) Refusal → Type 0
 Handed w (Ok v) = ReleaseOf w (vec_items v)
 Handed w (Err (Declined d)) = CircleIn w d
-Handed w (Err (NoHeap e)) = Unit {0}
+Handed w (Err (NoHeap e)) = (bytes : List ℕ) × ReleaseOf w bytes
 
 -- of what stands by the plain account after the calls of the lines, in a new folder over a sheet that means m
 pub data HandedAfter (m : Meaning) (lines : List ℕ) : Result (Vec ℕ Global) Refusal → Type 0 where

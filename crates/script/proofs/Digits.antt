@@ -1,5 +1,6 @@
 -- The digits of a number of at most seven, and what std's parse makes of them.
-use Rattle.std.proofs.Common.{◌≡◌, ℕ, zero, suc, ◌^◌, ◌<◌, ◌≤◌, true, false, eqb, ltb, nat_eq, ◌⊎◌, List, [], ◌∷◌, length, get_or, Some, None, Ok, Err, IsUtf8, decimal, Result, sym, refl, ap, ◌∙◌, inl, inr, ⊎_elim, subst, arith, MatchOption, MatchResult}
+use Rattle.std.proofs.Common.{◌≡◌, ℕ, zero, suc, ◌^◌, ◌<◌, ◌≤◌, true, false, eqb, ltb, nat_eq, ◌⊎◌, List, [], ◌∷◌, length, get_or, Some, None, Ok, Err, IsUtf8, codes, decimal, Result, sym, refl, ap, ◌∙◌, inl, inr, ⊎_elim, subst, arith, MatchOption, MatchResult}
+use Rattle.std.specs.Fmt.{digits}
 use Rattle.std.specs.Str.Parse.{AllDigits, digits_value, ParsesUnsigned}
 use Rattle.std.specs.Int.{IsInRange}
 use Rattle.std.specs.List.{starts_with}
@@ -106,3 +107,8 @@ module _ {E : Type 0} (ds : List ℕ) (short : length ds ≤ 7) (plus : get_or d
   pub parsed : (r : Result ℕ E) → ParsesUnsigned 32 10 ds r → leading_zero ds ≡ false → MatchOption (result_ok r) (NoNumber ds) (Number ds)
   parsed (Ok n) reads z = parse_ok (Ok n) reads n refl z
   parsed (Err d) reads z = parse_err (Err d) reads d refl
+
+-- seventeen is written so
+pub seventeen : decimal 17 ≡ codes "17"
+unfolding digits
+seventeen = refl

@@ -1,12 +1,10 @@
 -- A whole script, put together from its lines, their calls and the answers. Assumes nothing.
-use Rattle.std.proofs.Common.{◌≡◌, ℕ, ◌<◌, ◌≤◌, true, List, [], ◌∷◌, ◌++◌, length, take, drop, codes, Ok, Err, Result, refl, sym, ap, ◌∙◌, append-nil, suc, min, false, OnOk, arith}
+use Rattle.std.proofs.Common.{◌≡◌, ℕ, ◌<◌, ◌≤◌, List, [], ◌∷◌, ◌++◌, length, take, drop, codes, Ok, Err, Result, refl, sym, ap, ◌∙◌, append-nil, suc, min, OnOk, arith}
 use Rattle.std.specs.List.{flat_map}
 use Rattle.std.proofs.lemmas.List.{append_assoc, take_at, take_min, take-append-drop, length-take}
 use Rattle.std.proofs.lemmas.Grind.{flat_map-append}
 use Rattle.std.specs.Result.{is_ok}
 use Rattle.std.specs.Bool.{if◌then◌else◌}
-use Rattle.scale.proofs.Order.{clash}
-use Rattle.sheet.specs.Meanings.{Meaning}
 use Rattle.sheet.specs.Views.{meaning_of}
 use Rattle.sheet.specs.declared.meaning.Sheet.{Ghosts}
 use Rattle.layers.specs.FolderCalls.{account_of}
@@ -15,25 +13,23 @@ use Rattle.model.specs.declared.decline.Decline.{Decline}
 use Rattle.layers.specs.Folders.{Account, opened}
 use Rattle.archive.specs.declared.call.Call.{Call}
 use Rattle.archive.specs.declared.answer.Answer.{Answer}
-use Rattle.archive.specs.Following.{Answered}
+use Rattle.archive.specs.declared.answer.Answer.TheVariants.{Taken}
+use Rattle.archive.specs.Right.{Right}
+use Rattle.archive.specs.Following.{Answered, Replayed}
 use Rattle.archive.specs.Histories.{History, begun}
-use Rattle.archive.proofs.Histories.{one_more, kept, histories_replay}
-use Rattle.archive.proofs.Lessening.{lessens}
+use Rattle.archive.proofs.Histories.{one_more}
+use Rattle.archive.proofs.Replaying.{replayed}
 use Rattle.script.specs.Cuts.{FirstLine, bare_of, LineCall}
-use Rattle.script.specs.Text.{line_of, printable, Printed}
+use Rattle.script.specs.Text.{line_of, Printed}
 use Rattle.script.specs.Judged.{Opened}
 use Rattle.script.specs.Steps.{Stepped, Step, Lengthened, Left}
 use Rattle.script.proofs.FirstLine.{GoesOn, goes_on, all_spoken}
-use Rattle.script.proofs.Printing.{right_prints}
 
 -- a right answer is printed wherever there is room
 pub stepped : (a b : Account) (line before after : List ℕ) (c : Call) (x : Answer) (r : Result ℕ Decline)
     → 2048 ≤ length before → LineCall (bare_of line) c → Answered a c b x → Printed x before after r → Step a b line before after r
 stepped a b line before after c x (Ok n) room spoken taken put = record { call = c; answer = x; spoken = spoken; taken = taken; put = put }
-stepped a b line before after c x (Err d) room spoken taken q =
-    let yes : printable x ≡ true = right_prints a c x taken.right in
-    let not : printable x ≡ false = q.why room in
-    absurd (clash (printable x) yes not)
+stepped a b line before after c x (Err d) room spoken taken q = absurd (omega (arith, q.few))
 
 -- what was put comes to the end
 pub lengthened_by : {E : Type 0} (a b : Account) (line before after out more : List ℕ) (n : ℕ) (r : Result (Unit {0}) E)
@@ -60,61 +56,55 @@ first_some bs line f =
     let n : length line ≡ min (suc f.k) (length bs) = ap length f.is ∙ length-take (suc f.k) bs in
     (omega (arith, f.some), omega arith)
 
--- the lines so far: their calls, a history of them, and its answers' lines
-pub record Taking (a : Account) (script rest : List ℕ) (b : Account) (out : List ℕ) : Type 0 where
+-- the lines so far: their calls, and a history of them with its answers
+pub record Heard (a : Account) (script rest : List ℕ) (b : Account) : Type 0 where
   pub calls : List Call
   pub answers : List Answer
   pub spoken : GoesOn script calls rest
-  pub history : History a calls answers b
-  pub printed : out ≡ codes "ok\n" ++ flat_map line_of answers
+  pub history : History Right a calls answers b
 
-pub taking_first : (a : Account) (script out : List ℕ) → out ≡ codes "ok\n" → Taking a script script a out
-taking_first a script out is = record { calls = []; answers = []; spoken = λ cs said. said; history = begun; printed = is }
+abbrev pub heard_first : (a : Account) (script : List ℕ) → Heard a script script a
+heard_first a script = record { calls = []; answers = []; spoken = λ cs said. said; history = begun }
 
-pub taking_more : {a b d : Account} {script rest out more : List ℕ} (line : List ℕ)
-    → Taking a script rest b out → FirstLine rest line → Lengthened b d line out more → Taking a script (drop (length line) rest) d more
-taking_more {script = script} {rest = rest} line t first one = record {
-  calls = t.calls ++ (one.call ∷ []);
-  answers = t.answers ++ (one.answer ∷ []);
-  spoken = goes_on script rest line (drop (length line) rest) t.calls (t.calls ++ (one.call ∷ [])) one.call t.spoken first (first_and_rest rest line first) one.spoken refl;
-  history = one_more one.call one.answer t.history one.taken;
-  printed = one.put ∙ ap (λ (xs : List ℕ). xs ++ line_of one.answer) t.printed ∙ append_assoc (codes "ok\n") (flat_map line_of t.answers) (line_of one.answer)
-      ∙ ap (λ (xs : List ℕ). codes "ok\n" ++ xs) (ap (λ (xs : List ℕ). flat_map line_of t.answers ++ xs) (sym (append-nil (line_of one.answer))) ∙ sym (flat_map-append line_of t.answers (one.answer ∷ [])));
-}
-
-pub taking_all : (m : Meaning) (script rest : List ℕ) (b : Account) (out : List ℕ) → Taking (opened m) script rest b out → length rest ≡ 0 → Opened m script out
-taking_all m script rest b out t none =
-    let all = kept t.history in
-    record {
-      calls = t.calls;
-      answers = t.answers;
-      spoken = all_spoken script rest t.calls t.spoken none;
-      right = all.right;
-      lessens = lessens (opened m) t.calls t.answers all.right;
-      printed = t.printed;
-    }
-
--- the lines so far, with their answers let go
-pub record Hearing (a : Account) (script rest : List ℕ) (b : Account) : Type 0 where
-  pub calls : List Call
-  pub answers : List Answer
-  pub spoken : GoesOn script calls rest
-  pub history : History a calls answers b
-
-pub hearing_first : (a : Account) (script : List ℕ) → Hearing a script script a
-hearing_first a script = record { calls = []; answers = []; spoken = λ cs said. said; history = begun }
-
-pub hearing_more : {a b d : Account} {script rest : List ℕ} (line : List ℕ) (c : Call) (x : Answer)
-    → Hearing a script rest b → FirstLine rest line → LineCall (bare_of line) c → Answered b c d x → Hearing a script (drop (length line) rest) d
-hearing_more {script = script} {rest = rest} line c x t first call taken = record {
+abbrev pub heard_more : {a b d : Account} {script rest : List ℕ} (line : List ℕ) (c : Call) (x : Answer)
+    → Heard a script rest b → FirstLine rest line → LineCall (bare_of line) c → Answered b c d x → Heard a script (drop (length line) rest) d
+heard_more {script = script} {rest = rest} line c x t first call taken = record {
   calls = t.calls ++ (c ∷ []);
   answers = t.answers ++ (x ∷ []);
   spoken = goes_on script rest line (drop (length line) rest) t.calls (t.calls ++ (c ∷ [])) c t.spoken first (first_and_rest rest line first) call refl;
-  history = one_more c x t.history taken;
+  history = one_more Right c x t.history taken;
 }
 
-pub hearing_all : {S : Type 0} (s : Ghosts S) (below : S) (script rest : List ℕ) (desk : Desk S s)
-    → Hearing (opened (meaning_of s below)) script rest (account_of s desk.folder) → length rest ≡ 0 → Left (meaning_of s below) script (account_of s desk.folder)
-hearing_all s below script rest desk t none =
-    let all = histories_replay s below desk t.calls t.answers t.history in
-    record { calls = t.calls; spoken = all_spoken script rest t.calls t.spoken none; account = all.account; questions = all.questions }
+-- after all lines: the history is a replay of their calls
+module _ {S : Type 0} (s : Ghosts S) (below : S) (script rest : List ℕ) (desk : Desk S s) (t : Heard (opened (meaning_of s below)) script rest (account_of s desk.folder)) where
+  heard_all : Replayed s below t.calls desk.folder t.answers
+  heard_all = replayed s below desk t.calls t.answers t.history
+
+  pub left_all : length rest ≡ 0 → Left (meaning_of s below) script (account_of s desk.folder)
+  left_all none = record { calls = t.calls; spoken = all_spoken script rest t.calls t.spoken none; account = heard_all.account; questions = heard_all.questions }
+
+  pub opened_all : (out : List ℕ) → length rest ≡ 0 → out ≡ codes "ok\n" ++ flat_map line_of t.answers → Opened (meaning_of s below) script out
+  opened_all out none printed = record {
+    calls = t.calls;
+    answers = t.answers;
+    spoken = all_spoken script rest t.calls t.spoken none;
+    right = heard_all.all_right;
+    lessens = heard_all.lessens;
+    printed = printed;
+  }
+
+-- the lines so far, and the output: the line of the opening, and then those of the answers
+pub record Written (a : Account) (script rest : List ℕ) (b : Account) (out : List ℕ) : Type 0 where
+  pub heard : Heard a script rest b
+  pub printed : out ≡ codes "ok\n" ++ flat_map line_of heard.answers
+
+pub written_first : (a : Account) (script out : List ℕ) → out ≡ line_of Taken → Written a script script a out
+written_first a script out is = record { heard = heard_first a script; printed = is }
+
+pub written_more : {a b d : Account} {script rest out more : List ℕ} (line : List ℕ)
+    → Written a script rest b out → FirstLine rest line → Lengthened b d line out more → Written a script (drop (length line) rest) d more
+written_more line t first one = record {
+  heard = heard_more line one.call one.answer t.heard first one.spoken one.taken;
+  printed = one.put ∙ ap (λ (xs : List ℕ). xs ++ line_of one.answer) t.printed ∙ append_assoc (codes "ok\n") (flat_map line_of t.heard.answers) (line_of one.answer)
+      ∙ ap (λ (xs : List ℕ). codes "ok\n" ++ xs) (ap (λ (xs : List ℕ). flat_map line_of t.heard.answers ++ xs) (sym (append-nil (line_of one.answer))) ∙ sym (flat_map-append line_of t.heard.answers (one.answer ∷ [])));
+}

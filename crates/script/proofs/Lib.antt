@@ -3,7 +3,4 @@ pub mod Fields
 pub mod Lettered
 pub mod OneWay
 pub mod FirstLine
-pub mod Sizes
-pub mod Puts
-pub mod Printing
 pub mod Judging

@@ -1,6 +1,7 @@
 -- What writing at the end of a line does. Assumes nothing.
-use Rattle.std.specs.Prelude.{◌≡◌, ℕ, ◌+◌, ◌<◌, List, ◌++◌, length, Result, MatchResult}
+use Rattle.std.specs.Prelude.{◌≡◌, ℕ, ◌+◌, ◌≤◌, List, ◌++◌, length}
 
--- the text stands after what was there, or a line of 2,048 bytes has no room for it
-abbrev pub Put : {A E : Type 0} → List ℕ → List ℕ → List ℕ → Result A E → Type 0
-Put before text after r = MatchResult r (λ _. after ≡ before ++ text) (λ _. 2048 < length before + length text)
+-- the text stands after what was there, and has at most so many bytes
+pub record Puts (width : ℕ) (text before after : List ℕ) : Type 0 where
+  pub bytes : after ≡ before ++ text
+  pub within : length after ≤ length before + width

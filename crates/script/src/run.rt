@@ -1,19 +1,34 @@
 // A whole script: from its bytes to the bytes of its answers.
-ghost use Rattle.std.specs.Prelude.{◌≤◌, length, IfOk, OnOk};
+ghost use Rattle.std.specs.Prelude.{◌≡◌, ◌++◌, ◌≤◌, length, IfOk, OnOk};
 ghost use Rattle.layers.specs.FolderCalls.{account_of};
 ghost use Rattle.sheet.specs.Views.{meaning_of};
 ghost use Rattle.script.specs.Judged.{Opened, Judged};
 ghost use Rattle.script.specs.Makes.{new_sheet};
 ghost use Rattle.script.specs.Steps.{Lengthened, Left};
+ghost use Rattle.script.specs.Text.{line_of};
 
 use crate::lines::{bare, call_in, first_line};
 use crate::make::{Make, opening};
+use crate::print::print;
 use crate::step::step;
+use archive::answer::Answer;
 use archive::desk::Desk;
 use listsheet::ListSheet;
+use model::decline::Decline;
 use sheet::bitsheet::BitSheet;
 use sheet::meaning::Sheet;
 use std::alloc::{AllocError, Global};
+
+// The line of the first answer, alone.
+fn begun(heap: Global, answer: &Answer) -> Result<Vec<u8>, AllocError>
+    ensures { IfOk result (λ v. v.items ≡ line_of answer.now) }
+{
+    let mut text = [0; 2048];
+    match print(answer, &mut text) {
+        Ok(n) => Vec::from_slice(heap, &text[..n]),
+        Err(_) => unreachable!(),
+    }
+}
 
 // One line's call, and the line of its answer at the end. The line is first made in `text`.
 fn add_line<S: Sheet>(
@@ -27,7 +42,7 @@ fn add_line<S: Sheet>(
 {
     match step(desk, line, text) {
         Ok(n) => out.extend_from_slice(&text[..n]),
-        Err(_) => Ok(()),
+        Err(_) => unreachable!(),
     }
 }
 
@@ -36,7 +51,7 @@ pub fn run_on<S: Sheet + Drop>(heap: Global, sheet: S, script: &[u8]) -> Result<
     ensures { IfOk result (λ v. Opened (meaning_of S.Sheet sheet) script.now v.items) }
 {
     let mut desk = Desk::open(sheet);
-    let mut out = Vec::from_slice(heap, b"ok\n")?;
+    let mut out = begun(heap, &Answer::Taken)?;
     let mut text = [0; 2048];
     let mut rest = script;
     while let Some(line) = first_line(rest) {
@@ -78,6 +93,6 @@ pub fn run(heap: Global, script: &[u8]) -> Result<Vec<u8>, AllocError>
     }
     match opening(script) {
         Some((make, rest)) => open(heap, make, rest),
-        None => Vec::from_slice(heap, b"no 17\n"),
+        None => begun(heap, &Answer::Declined(Decline::WrongLine)),
     }
 }

@@ -1,78 +1,79 @@
 // What an answer lists, and its text: records, grades, and records with their grades.
-ghost use Rattle.std.specs.Prelude.{ℕ, List};
+ghost use Rattle.std.specs.Prelude.{ℕ, ◌+◌, ◌*◌, ◌≤◌, List, length};
+ghost use Rattle.std.specs.Fmt.{signed_decimal};
 ghost use Rattle.std.specs.List.{flat_map};
 ghost use Rattle.script.specs.Numbers.{field};
-ghost use Rattle.script.specs.Puts.{Put};
-ghost use Rattle.script.specs.Text.{whole_text, unit_text, pair_text, entry_text};
+ghost use Rattle.script.specs.Puts.{Puts};
+ghost use Rattle.script.specs.Text.{strict_text, entry_text};
 
 use crate::write::{Line, put_number, put_text};
-use archive::answer::Graded;
-use arrayvec::CapacityError;
-use scale::pair::Pair;
-use scale::unit::Unit;
-use scale::whole::Whole;
+use archive::answer::{Graded, StrictGrade};
 
 // What has a text.
 pub trait Spelled: Copy {
     ghost text: { Self → List ℕ };
 
-    fn put(self, line: &mut Line) -> Result<(), CapacityError>
-        ensures { Put line.old.items (text self) line.new.items result };
+    // no text has more bytes
+    ghost width: { ℕ };
+
+    fn put(self, line: &mut Line)
+        requires { length line.old.items + width ≤ 2048 }
+        ensures { Puts width (text self) line.old.items line.new.items };
 }
 
 // A record is a space and its number.
 impl Spelled for u8 {
     ghost text = { field };
 
-    fn put(self, line: &mut Line) -> Result<(), CapacityError> {
-        put_text(line, b" ")?;
-        put_number(line, self)
+    ghost width = { 4 };
+
+    fn put(self, line: &mut Line) {
+        put_text(line, b" ");
+        put_number(line, self);
     }
 }
 
-// Whole and Unit have one line each: they are two types, and a third place for that line would take as much.
-impl Spelled for Whole {
-    ghost text = { whole_text };
+// A grade that is a number.
+impl Spelled for i64 {
+    ghost text = { signed_decimal };
 
-    fn put(self, line: &mut Line) -> Result<(), CapacityError> {
-        put_number(line, self.value)
+    ghost width = { 20 };
+
+    fn put(self, line: &mut Line) {
+        put_number(line, self);
     }
 }
 
-impl Spelled for Unit {
-    ghost text = { unit_text };
+impl Spelled for StrictGrade {
+    ghost text = { strict_text };
 
-    fn put(self, line: &mut Line) -> Result<(), CapacityError> {
-        put_number(line, self.value)
+    ghost width = { 25 };
+
+    fn put(self, line: &mut Line) {
+        put_number(line, self.a);
+        put_text(line, b"/");
+        put_number(line, self.b);
     }
 }
 
-impl Spelled for Pair<Whole, Unit> {
-    ghost text = { pair_text };
+impl<G: Spelled> Spelled for Graded<G> {
+    ghost text = { entry_text G.text };
 
-    fn put(self, line: &mut Line) -> Result<(), CapacityError> {
-        self.first.put(line)?;
-        put_text(line, b"/")?;
-        self.second.put(line)
-    }
-}
+    ghost width = { 5 + G.width };
 
-impl<V: Spelled> Spelled for Graded<V> {
-    ghost text = { entry_text V.text };
-
-    fn put(self, line: &mut Line) -> Result<(), CapacityError> {
-        self.record.put(line)?;
-        put_text(line, b":")?;
-        self.grade.put(line)
+    fn put(self, line: &mut Line) {
+        self.record.put(line);
+        put_text(line, b":");
+        self.grade.put(line);
     }
 }
 
 // All of them, in their order.
-pub fn put_all<T: Spelled>(line: &mut Line, items: &[T]) -> Result<(), CapacityError>
-    ensures { Put line.old.items (flat_map T.text items.now) line.new.items result }
+pub fn put_all<T: Spelled>(line: &mut Line, items: &[T])
+    requires { length line.old.items + length items.now * T.width ≤ 2048 }
+    ensures { Puts (length items.now * T.width) (flat_map T.text items.now) line.old.items line.new.items }
 {
     for item in items {
-        item.put(line)?;
+        item.put(line);
     }
-    Ok(())
 }

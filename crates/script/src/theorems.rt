@@ -1,5 +1,5 @@
-// The theorems on lines and answers. Each function does nothing: its contract is the statement that it is named after.
-ghost use Rattle.script.specs.Statements.{ReadOneWay, LinesShort, LongLinesWrong, ModestPrintable};
+// The theorems on lines. Each function does nothing: its contract is the statement that it is named after.
+ghost use Rattle.script.specs.Statements.{ReadOneWay, LinesShort, LongLinesWrong};
 
 // The bytes of a line are those of one call only.
 pub fn read_one_way()
@@ -14,9 +14,4 @@ pub fn lines_are_short()
 // A line of more than 80 bytes stands for no call.
 pub fn long_lines_are_wrong()
     ensures { LongLinesWrong }
-{}
-
-// An answer of at most 64 entries, with grades that 4,096 steps can reach, is printable.
-pub fn modest_answers_print()
-    ensures { ModestPrintable }
 {}

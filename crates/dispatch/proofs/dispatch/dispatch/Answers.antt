@@ -1,18 +1,27 @@
-use Rattle.std.proofs.Common.{Err, sym, ap, ◌∙◌, rules, subst}
+use Rattle.std.proofs.Common.{take, sym, rules, subst, length-take-le}
 use Rattle.std.proofs.lemmas.Result.{err_from_is_err_and}
-use Rattle.sheet.specs.Meanings.{Meaning}
-use Rattle.dispatch.specs.Dispatches.{HandedAfter, Dispatched, opening, wrong}
+use Rattle.dispatch.specs.Dispatches.{ReleaseOf}
+use Rattle.dispatch.proofs.Handing.{script_written, script_refused}
 use Rattle.dispatch.proofs.dispatch.dispatch.Goals as goal
 
-pub returns-in_err-make : goal.returns-in_err-make
-returns-in_err-make c =
+pub returns-in_err-length : goal.returns-in_err-length
+returns-in_err-length c =
     let p = err_from_is_err_and c.from_residual.result c.from_residual.ensures.1 in
-    subst (Dispatched c.args.script.now) (sym (p.1 ∙ ap Err p.2)) (wrong c.in_err-make.field-0.0 (search rules) (search rules))
+    rw (p.1, p.2) (script_refused c.args.script.now _ _ _ c.dispatch_into.new.out c.lend.ensures.enough c.in_err-length.field-0.0 (search rules) (search rules) c.in_err-length.ensures.written)
 
-pub returns-in-Bits : goal.returns-in-Bits
-returns-in-Bits c =
-    opening c.in_ok-make.make c.in_ok-make.lines.now (search rules) (rw c.in-Bits.is (subst (λ (m : Meaning). HandedAfter m c.in_ok-make.lines.now c.after.result) (search rules) c.after.ensures))
+pub slice_bounds-out-end : goal.slice_bounds-out-end
+slice_bounds-out-end c = (script_written c.args.script.now _ _ _ c.dispatch_into.new.out c.lend.ensures.enough c.in_ok-length.length c.in_ok-length.ensures.written).0
 
-pub returns-in-List : goal.returns-in-List
-returns-in-List c =
-    opening c.in_ok-make.make c.in_ok-make.lines.now (search rules) (rw c.in-List.is (subst (λ (m : Meaning). HandedAfter m c.in_ok-make.lines.now c.after-in-List.result) (search rules) c.after-in-List.ensures))
+pub slice_bounds-from_slice-end : goal.slice_bounds-from_slice-end
+slice_bounds-from_slice-end c =
+    sym (length-take-le c.in_ok-length.length c.dispatch_into.new.out (script_written c.args.script.now _ _ _ c.dispatch_into.new.out c.lend.ensures.enough c.in_ok-length.length c.in_ok-length.ensures.written).0)
+
+pub returns-in_err-from_slice : goal.returns-in_err-from_slice
+returns-in_err-from_slice c =
+    let p = err_from_is_err_and c.from_residual-in_err-from_slice.result c.from_residual-in_err-from_slice.ensures.1 in
+    rw (p.1, p.2) ((script_written c.args.script.now _ _ _ c.dispatch_into.new.out c.lend.ensures.enough c.in_ok-length.length c.in_ok-length.ensures.written).1 _ (λ w made. (take c.in_ok-length.length c.dispatch_into.new.out, made)))
+
+pub returns : goal.returns
+returns c =
+    (script_written c.args.script.now _ _ _ c.dispatch_into.new.out c.lend.ensures.enough c.in_ok-length.length c.in_ok-length.ensures.written).1 _
+    (λ w made. subst (ReleaseOf w) (sym c.in_ok-from_slice.ensures.items) made)

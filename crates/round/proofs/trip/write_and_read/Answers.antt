@@ -4,6 +4,12 @@ use Rattle.grading.specs.Outcomes.{brought}
 use Rattle.round.proofs.Returning.{trip, written_within, drawn_of}
 use Rattle.round.proofs.trip.write_and_read.Goals as goal
 
+pub slice_bounds-read_release-end : goal.slice_bounds-read_release-end
+slice_bounds-read_release-end g c =
+    written_within (view_of g.S.Sheet c.args.sheet.now) (drawn_of g.S.Sheet c.args.sheet.now (g.met.S.Sheet.lawful c.args.sheet.now))
+    (brought c.args.memory.now) (brought c.write_release.new.memory)
+    c.args.out.now c.write_release.new.out c.in_ok-length.length c.in_ok-length.ensures.released
+
 pub slice_bounds-read_release-end-2 : goal.slice_bounds-read_release-end-2
 slice_bounds-read_release-end-2 g c =
     sym (length-take-le c.in_ok-length.length c.write_release.new.out
