@@ -3,4 +3,5 @@ pub mod Fields
 pub mod Lettered
 pub mod OneWay
 pub mod FirstLine
+pub mod Puts
 pub mod Judging

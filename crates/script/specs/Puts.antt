@@ -1,7 +1,9 @@
--- What writing at the end of a line does. Assumes nothing.
-use Rattle.std.specs.Prelude.{◌≡◌, ℕ, ◌+◌, ◌≤◌, List, ◌++◌, length}
+-- What writing at a place of some bytes does. Assumes nothing.
+use Rattle.std.specs.Prelude.{◌≡◌, ℕ, ◌+◌, ◌≤◌, List, ◌++◌, length, take, drop}
 
--- the text stands after what was there, and has at most so many bytes
-pub record Puts (width : ℕ) (text before after : List ℕ) : Type 0 where
-  pub bytes : after ≡ before ++ text
-  pub within : length after ≤ length before + width
+-- the text stands at the place `at`, of at most so many bytes, and ends before `end`; all bytes before it and past it are kept
+pub record PutAt (width : ℕ) (text : List ℕ) (at : ℕ) (before after : List ℕ) (end : ℕ) : Type 0 where
+  pub ends : end ≡ at + length text
+  pub fits : end ≤ length before
+  pub within : length text ≤ width
+  pub bytes : after ≡ take at before ++ (text ++ drop end before)

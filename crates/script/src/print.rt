@@ -1,95 +1,85 @@
 // The line of an answer: "ok" or "no" and a number, a ring after "no", and the entries of a grading after "ok", with one
 // space before each item and byte 10 at the end. The types of an answer leave no line longer than 2,048 bytes.
-ghost use Rattle.std.specs.Prelude.{◌≡◌, ◌+◌, ◌*◌, ◌≤◌, ◌++◌, codes, length};
+ghost use Rattle.std.specs.Prelude.{◌+◌, ◌*◌, ◌≤◌, ◌++◌, codes, length};
 ghost use Rattle.std.specs.List.{flat_map};
 ghost use Rattle.model.specs.Refusals.{number_of};
 ghost use Rattle.script.specs.Numbers.{field};
-ghost use Rattle.script.specs.Puts.{Puts};
-ghost use Rattle.script.specs.Text.{ratio_text, ring_text, text_of, line_of, Printed};
+ghost use Rattle.script.specs.Puts.{PutAt};
+ghost use Rattle.script.specs.Text.{ratio_text, ring_text, text_of, Printed};
 
 use crate::spell::{Spelled, put_all};
-use crate::write::{Line, put_number, put_text};
+use crate::write::{put_number, put_text};
 use archive::answer::Answer;
 use model::decline::Decline;
 
 // The entries of a grading of any kind.
-fn put_grades<T: Spelled>(line: &mut Line, entries: &[T])
-    requires room { length line.old.items + 2 + 64 * T.width ≤ 2048 }
+fn put_grades<T: Spelled>(out: &mut [u8], at: usize, entries: &[T]) -> usize
+    requires room { at + 2 + 64 * T.width ≤ length out.old }
     requires few { length entries.now ≤ 64 }
-    ensures { Puts (2 + 64 * T.width) (codes "ok" ++ flat_map T.text entries.now) line.old.items line.new.items }
+    ensures { PutAt (2 + 64 * T.width) (codes "ok" ++ flat_map T.text entries.now) at out.old out.new result }
 {
-    put_text(line, b"ok");
-    put_all(line, entries);
+    let at = put_text(out, at, b"ok");
+    put_all(out, at, entries)
 }
 
 // A ring: its word and its records, and nothing where there are none.
-fn put_ring(line: &mut Line, ring: &[u8])
-    requires room { length line.old.items + 261 ≤ 2048 }
+fn put_ring(out: &mut [u8], at: usize, ring: &[u8]) -> usize
+    requires room { at + 261 ≤ length out.old }
     requires few { length ring.now ≤ 64 }
-    ensures { Puts 261 (ring_text ring.now) line.old.items line.new.items }
+    ensures { PutAt 261 (ring_text ring.now) at out.old out.new result }
 {
     if ring.is_empty() {
-        return;
+        return at;
     }
-    put_text(line, b" ring");
-    put_all(line, ring);
+    let at = put_text(out, at, b" ring");
+    put_all(out, at, ring)
 }
 
 // A refusal's number.
-fn put_decline(line: &mut Line, decline: Decline)
-    requires { length line.old.items + 6 ≤ 2048 }
-    ensures { Puts 6 (codes "no" ++ field (number_of decline)) line.old.items line.new.items }
+fn put_decline(out: &mut [u8], at: usize, decline: Decline) -> usize
+    requires { at + 6 ≤ length out.old }
+    ensures { PutAt 6 (codes "no" ++ field (number_of decline)) at out.old out.new result }
 {
-    put_text(line, b"no");
-    decline.number().put(line);
+    let at = put_text(out, at, b"no");
+    decline.number().put(out, at)
 }
 
 // Marks to hops.
-fn put_ratio(line: &mut Line, marks: u8, hops: u8)
-    requires { length line.old.items + 10 ≤ 2048 }
-    ensures { Puts 10 (codes "ok" ++ ratio_text marks hops) line.old.items line.new.items }
+fn put_ratio(out: &mut [u8], at: usize, marks: u8, hops: u8) -> usize
+    requires { at + 10 ≤ length out.old }
+    ensures { PutAt 10 (codes "ok" ++ ratio_text marks hops) at out.old out.new result }
 {
-    put_text(line, b"ok");
-    marks.put(line);
-    put_text(line, b"/");
-    put_number(line, hops);
+    let at = put_text(out, at, b"ok");
+    let at = marks.put(out, at);
+    let at = put_text(out, at, b"/");
+    put_number(out, at, hops)
 }
 
 // The text of an answer.
-fn put_answer(line: &mut Line, answer: &Answer)
-    requires { length line.old.items + 1922 ≤ 2048 }
-    ensures { Puts 1922 (text_of answer.now) line.old.items line.new.items }
+fn put_answer(out: &mut [u8], answer: &Answer) -> usize
+    requires { 2048 ≤ length out.old }
+    ensures { PutAt 2047 (text_of answer.now) 0 out.old out.new result }
 {
     match answer {
-        Answer::Taken => put_text(line, b"ok"),
-        Answer::Declined(decline) => put_decline(line, *decline),
+        Answer::Taken => put_text(out, 0, b"ok"),
+        Answer::Declined(decline) => put_decline(out, 0, *decline),
         Answer::Forced(decline, ring) => {
-            put_decline(line, *decline);
-            put_ring(line, ring);
+            let at = put_decline(out, 0, *decline);
+            put_ring(out, at, ring)
         }
-        Answer::Wholes(entries) => put_grades(line, entries),
-        Answer::Pairs(entries) => put_grades(line, entries),
-        Answer::Units(entries) => put_grades(line, entries),
+        Answer::Wholes(entries) => put_grades(out, 0, entries),
+        Answer::Pairs(entries) => put_grades(out, 0, entries),
+        Answer::Units(entries) => put_grades(out, 0, entries),
         Answer::Ratio {
             marks,
             hops,
             ring,
             ..
         } => {
-            put_ratio(line, *marks, *hops);
-            put_ring(line, ring);
+            let at = put_ratio(out, 0, *marks, *hops);
+            put_ring(out, at, ring)
         }
     }
-}
-
-// The line of an answer: its text, and byte 10.
-fn lined(answer: &Answer) -> Line
-    ensures { result.items ≡ line_of answer.now }
-{
-    let mut line = Line::new();
-    put_answer(&mut line, answer);
-    put_text(&mut line, b"\n");
-    line
 }
 
 // Writes an answer's line at the front of `out` and answers its length, since the caller brings the memory. Declines by 1
@@ -100,7 +90,6 @@ pub fn print(answer: &Answer, out: &mut [u8]) -> Result<usize, Decline>
     if out.len() < 2048 {
         return Err(Decline::TooLittleMemory);
     }
-    let line = lined(answer);
-    out[..line.len()].copy_from_slice(&line);
-    Ok(line.len())
+    let end = put_answer(out, answer);
+    Ok(put_text(out, end, b"\n"))
 }

@@ -3,10 +3,10 @@ ghost use Rattle.std.specs.Prelude.{ℕ, ◌+◌, ◌*◌, ◌≤◌, List, leng
 ghost use Rattle.std.specs.Fmt.{signed_decimal};
 ghost use Rattle.std.specs.List.{flat_map};
 ghost use Rattle.script.specs.Numbers.{field};
-ghost use Rattle.script.specs.Puts.{Puts};
+ghost use Rattle.script.specs.Puts.{PutAt};
 ghost use Rattle.script.specs.Text.{strict_text, entry_text};
 
-use crate::write::{Line, put_number, put_text};
+use crate::write::{put_number, put_text};
 use archive::answer::{Graded, StrictGrade};
 
 // What has a text.
@@ -16,9 +16,9 @@ pub trait Spelled: Copy {
     // no text has more bytes
     ghost width: { ℕ };
 
-    fn put(self, line: &mut Line)
-        requires { length line.old.items + width ≤ 2048 }
-        ensures { Puts width (text self) line.old.items line.new.items };
+    fn put(self, out: &mut [u8], at: usize) -> usize
+        requires { at + width ≤ length out.old }
+        ensures { PutAt width (text self) at out.old out.new result };
 }
 
 // A record is a space and its number.
@@ -27,9 +27,10 @@ impl Spelled for u8 {
 
     ghost width = { 4 };
 
-    fn put(self, line: &mut Line) {
-        put_text(line, b" ");
-        put_number(line, self);
+    #[tactic(auto, using(crate::proofs::Puts::put_both, crate::proofs::Puts::put_long))]
+    fn put(self, out: &mut [u8], at: usize) -> usize {
+        let at = put_text(out, at, b" ");
+        put_number(out, at, self)
     }
 }
 
@@ -39,8 +40,8 @@ impl Spelled for i64 {
 
     ghost width = { 20 };
 
-    fn put(self, line: &mut Line) {
-        put_number(line, self);
+    fn put(self, out: &mut [u8], at: usize) -> usize {
+        put_number(out, at, self)
     }
 }
 
@@ -49,10 +50,11 @@ impl Spelled for StrictGrade {
 
     ghost width = { 25 };
 
-    fn put(self, line: &mut Line) {
-        put_number(line, self.a);
-        put_text(line, b"/");
-        put_number(line, self.b);
+    #[tactic(auto, using(crate::proofs::Puts::put_both, crate::proofs::Puts::put_long))]
+    fn put(self, out: &mut [u8], at: usize) -> usize {
+        let at = put_number(out, at, self.a);
+        let at = put_text(out, at, b"/");
+        put_number(out, at, self.b)
     }
 }
 
@@ -61,19 +63,22 @@ impl<G: Spelled> Spelled for Graded<G> {
 
     ghost width = { 5 + G.width };
 
-    fn put(self, line: &mut Line) {
-        self.record.put(line);
-        put_text(line, b":");
-        self.grade.put(line);
+    #[tactic(auto, using(crate::proofs::Puts::put_both, crate::proofs::Puts::put_long))]
+    fn put(self, out: &mut [u8], at: usize) -> usize {
+        let at = self.record.put(out, at);
+        let at = put_text(out, at, b":");
+        self.grade.put(out, at)
     }
 }
 
 // All of them, in their order.
-pub fn put_all<T: Spelled>(line: &mut Line, items: &[T])
-    requires { length line.old.items + length items.now * T.width ≤ 2048 }
-    ensures { Puts (length items.now * T.width) (flat_map T.text items.now) line.old.items line.new.items }
+pub fn put_all<T: Spelled>(out: &mut [u8], at: usize, items: &[T]) -> usize
+    requires { at + length items.now * T.width ≤ length out.old }
+    ensures { PutAt (length items.now * T.width) (flat_map T.text items.now) at out.old out.new result }
 {
+    let mut at = at;
     for item in items {
-        item.put(line);
+        at = item.put(out, at);
     }
+    at
 }
