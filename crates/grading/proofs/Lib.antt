@@ -10,3 +10,4 @@ pub mod Checked
 pub mod Counting
 pub mod Measures
 pub mod Climbing
+pub mod Ends

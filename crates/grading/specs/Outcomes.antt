@@ -24,14 +24,20 @@ memory grades ring values bytes = record { grades = grades; ring = ring; values 
 abbrev pub brought : {V : Type 0} → Lent V → Memory V
 brought m = memory m.grades.now m.ring.now m.values.now m.bytes.now
 
--- the same memory is lent after a call as before, and is as long: its owner finds there what the call left. Scratch past its stated size is kept
+-- what lies past the stated sizes is kept, also where scratch is free
+pub record PastKept {V : Type 0} (before after : Memory V) : Type 0 where
+  pub grades : drop 64 after.grades ≡ drop 64 before.grades
+  pub ring : drop 64 after.ring ≡ drop 64 before.ring
+  pub values : drop 4160 after.values ≡ drop 4160 before.values
+  pub bytes : drop 4160 after.bytes ≡ drop 4160 before.bytes
+
+-- the same memory is lent after a call as before, and is as long: its owner finds there what the call left
 pub record SameLent {V : Type 0} (before after : Lent V) : Type 0 where
   pub grades : (after.grades.ghost_name ≡ before.grades.ghost_name) × (length after.grades.now ≡ length before.grades.now)
   pub ring : (after.ring.ghost_name ≡ before.ring.ghost_name) × (length after.ring.now ≡ length before.ring.now)
   pub values : (after.values.ghost_name ≡ before.values.ghost_name) × (length after.values.now ≡ length before.values.now)
-  pub values_past : drop 4160 after.values.now ≡ drop 4160 before.values.now
   pub bytes : (after.bytes.ghost_name ≡ before.bytes.ghost_name) × (length after.bytes.now ≡ length before.bytes.now)
-  pub bytes_past : drop 4160 after.bytes.now ≡ drop 4160 before.bytes.now
+  pub past : PastKept (brought before) (brought after)
 
 -- 64 grades, 64 ring bytes, 4,160 values and 4,160 bytes
 abbrev pub enough : ℕ → ℕ → ℕ → ℕ → Bool

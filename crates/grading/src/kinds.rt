@@ -54,7 +54,8 @@ impl Kind for Pair<Whole, Unit> {
     ghost shown = { strict_shown };
 }
 
-// Unit: the highest grading in which every mark leads up by at least 1 and every hop not at all, whatever thresholds are given.
+// Unit: the highest grading in which every mark leads up by at least 1 and every hop not at all. It declines by 11 as every grading
+// does, and its grades are those of t1 = 1 and t2 = 0, whatever allowed thresholds come.
 impl Kind for Unit {
     ghost asked = { unit_asked };
 

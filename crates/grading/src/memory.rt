@@ -1,11 +1,12 @@
 // The memory that a caller brings to a grading.
-ghost use Rattle.std.specs.Prelude.{◌≡◌, ◌≤◌, true, length, take};
+ghost use Rattle.std.specs.Prelude.{◌≡◌, ◌≤◌, true, length, take, replicate};
 ghost use Rattle.grading.specs.Outcomes.{memory, brought, suffices};
 
 use crate::forbidden::Forbidden;
 use scale::scale::Scale;
 
-// 64 places for grades, 64 bytes for a ring, and scratch of 4,160 values and 4,160 bytes. It may be more; what is more is kept.
+// 64 places for grades, 64 bytes for a ring, and scratch of 4,160 values and 4,160 bytes. It may be more; what is more is kept on
+// every outcome, in scratch too.
 // Calls inside ask that each part has its size, by a clause: a type for that would be a second struct of the same four parts. And each
 // call says that the same slices are lent after it, which no invariant can: it speaks of before and after.
 #[derive(Drop)]
@@ -48,6 +49,10 @@ pub struct Room<V> {
 impl<V: Scale> Room<V> {
     // All places hold nothing.
     pub fn new() -> Room<V>
+        ensures grades { result.grades ≡ replicate 64 V.nothing }
+        ensures ring { result.ring ≡ replicate 64 0 }
+        ensures values { result.values ≡ replicate 4160 V.nothing }
+        ensures bytes { result.bytes ≡ replicate 4160 0 }
     {
         Room {
             grades: [V::nothing(); 64],

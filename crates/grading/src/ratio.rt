@@ -1,5 +1,5 @@
 // The least ratio: the greatest ratio of marks to hops that a ring has, with that ring and the grades at that ratio.
-ghost use Rattle.std.specs.Prelude.{◌≡◌, true, length, drop, pos, nat_lt};
+ghost use Rattle.std.specs.Prelude.{◌≡◌, true, length, pos, nat_lt};
 ghost use Rattle.model.specs.Limits.{within_limits};
 ghost use Rattle.model.specs.Ratios.{thresholds_at};
 ghost use Rattle.model.specs.Views.{View};
@@ -7,7 +7,7 @@ ghost use Rattle.scale.specs.Wholes.{of_whole};
 ghost use Rattle.sheet.specs.Views.{view_of};
 ghost use Rattle.grading.specs.Graphs.{Draws};
 ghost use Rattle.paths.specs.Numbers.{BestLoose, ForbidsLoosely};
-ghost use Rattle.grading.specs.Outcomes.{brought, enough, suffices, SameLent, Attempt};
+ghost use Rattle.grading.specs.Outcomes.{memory, brought, enough, suffices, PastKept, SameLent, Attempt};
 ghost use Rattle.grading.specs.Ratios.{RatioFound, ratio, Climbed, answer_to};
 
 use crate::count::{Tally, count_steps};
@@ -125,8 +125,7 @@ fn climb_beside<S: Sheet>(
 ) -> Ratio
     requires { enough (length grades.old) (length ring.old) (length values.old) (length bytes.old) ≡ true }
     ensures climbed { Climbed (view_of S.Sheet sheet.now) result grades.old grades.new ring.new }
-    ensures values { drop 4160 values.new ≡ drop 4160 values.old }
-    ensures bytes { drop 4160 bytes.new ≡ drop 4160 bytes.old }
+    ensures past { PastKept (memory grades.old ring.old values.old bytes.old) (memory grades.new ring.new values.new bytes.new) }
 {
     let mut memory = Memory {
         grades,

@@ -1,12 +1,12 @@
 // A graph solved in memory that was brought: the values of its standing records, or the ring that forbids them.
-ghost use Rattle.std.specs.Prelude.{◌≡◌, ◌<◌, ◌≤◌, true, length, drop};
+ghost use Rattle.std.specs.Prelude.{◌≡◌, ◌<◌, ◌≤◌, true, length};
 ghost use Rattle.model.specs.Limits.{within_limits};
 ghost use Rattle.model.specs.Views.{View};
 ghost use Rattle.model.specs.declared.thresholds.Thresholds.{Thresholds};
 ghost use Rattle.paths.specs.Bests.{Best, Forbids};
 ghost use Rattle.grading.specs.Graphs.{Draws};
 ghost use Rattle.grading.specs.Problems.{Costs, Copied, Spells};
-ghost use Rattle.grading.specs.Outcomes.{memory, brought, enough, suffices, SameLent, Attempt};
+ghost use Rattle.grading.specs.Outcomes.{memory, brought, enough, suffices, PastKept, SameLent, Attempt};
 
 use crate::descent::write_ring;
 use crate::forbidden::Forbidden;
@@ -41,8 +41,7 @@ fn solve<V: Scale>(
 ) -> Result<(), Forbidden>
     requires room { enough (length grades.old) (length ring.old) (length values.old) (length bytes.old) ≡ true }
     requires costs { Costs V.Scale problem.now }
-    ensures values { drop 4160 values.new ≡ drop 4160 values.old }
-    ensures bytes { drop 4160 bytes.new ≡ drop 4160 bytes.old }
+    ensures past { PastKept (memory grades.old ring.old values.old bytes.old) (memory grades.new ring.new values.new bytes.new) }
     ensures solved { (w : View) (t : Thresholds) → Spells V.Scale w t problem.now → Attempt w (Best V.Scale w t) V.Scale.nothing (Forbids V.Scale w t)
         (memory grades.old ring.old values.old bytes.old)
         (memory grades.new ring.new values.new bytes.new) result }

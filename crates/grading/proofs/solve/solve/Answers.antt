@@ -1,23 +1,27 @@
 use Rattle.std.proofs.Common.{◌≡◌, ℕ, ◌-◌, ◌≤◌, ◌++◌, List, length, take, drop, sym, refl, subst, arith, le_refl, rules}
-use Rattle.std.proofs.lemmas.Slice.{drop-append-drop}
 use Rattle.paths.specs.Bests.{Forbids}
+use Rattle.grading.proofs.Ends.{end_kept, end_behind}
 use Rattle.grading.proofs.Spelling.{enough_parts, best_made, others_kept, forbids_shown}
 use Rattle.grading.proofs.solve.solve.Goals as goal
 
-past : {X : Type 0} (ys rest xs : List X) → rest ≡ drop 4160 xs → length ys ≡ 4160 → drop 4160 (ys ++ rest) ≡ drop 4160 xs
-past ys rest xs e l = subst (λ (r : List _). drop 4160 (ys ++ r) ≡ drop 4160 xs) (sym e) (drop-append-drop 4160 xs ys 4160 (le_refl 4160) l)
+pub returns-in-Ok-clause-past : goal.returns-in-Ok-clause-past
+returns-in-Ok-clause-past g c = record {
+  grades = end_kept g.V.Scale.nothing 64 c.args.grades.now c.copy_values.new.to (omega arith) (λ i l. c.copy_values.ensures.outside i (λ small. absurd (omega arith)));
+  ring = refl;
+  values = end_behind 4160 (c.settle.new.old ++ (c.settle.new.new ++ c.split_at_mut-new.result.1.now)) c.split_at_mut-values.result.1.now c.args.values.now c.split_at_mut-values.ensures.back (grind arith);
+  bytes = end_behind 4160 c.bytes-4-1.given.0 c.split_at_mut-bytes.result.1.now c.args.bytes.now c.split_at_mut-bytes.ensures.back (search rules);
+}
 
-pub returns-in-Ok-clause-values : goal.returns-in-Ok-clause-values
-returns-in-Ok-clause-values g c = past (c.settle.new.old ++ (c.settle.new.new ++ c.split_at_mut-new.result.1.now)) c.split_at_mut-values.result.1.now c.args.values.now c.split_at_mut-values.ensures.back (grind arith)
-
-pub returns-in-Err-clause-values : goal.returns-in-Err-clause-values
-returns-in-Err-clause-values g c = past (c.settle.new.old ++ (c.settle.new.new ++ c.split_at_mut-new.result.1.now)) c.split_at_mut-values.result.1.now c.args.values.now c.split_at_mut-values.ensures.back (grind arith)
-
-pub returns-in-Ok-clause-bytes : goal.returns-in-Ok-clause-bytes
-returns-in-Ok-clause-bytes g c = past c.bytes-4-1.given.0 c.split_at_mut-bytes.result.1.now c.args.bytes.now c.split_at_mut-bytes.ensures.back (search rules)
-
-pub returns-in-Err-clause-bytes : goal.returns-in-Err-clause-bytes
-returns-in-Err-clause-bytes g c = past c.bytes-4-1.given.0 c.split_at_mut-bytes.result.1.now c.args.bytes.now c.split_at_mut-bytes.ensures.back (search rules)
+pub returns-in-Err-clause-past : goal.returns-in-Err-clause-past
+returns-in-Err-clause-past g c =
+    let top : c.in-Err.span.high ≤ 64 = c.in-Err.ensures.again.within in
+    let long : c.write_ring.result ≡ c.in-Err.span.high - c.in-Err.span.low = c.write_ring.ensures.long in
+    record {
+      grades = refl;
+      ring = end_kept 0 64 c.args.ring.now c.write_ring.new.ring (omega arith) (λ i l. c.write_ring.ensures.kept i (omega arith));
+      values = end_behind 4160 (c.settle.new.old ++ (c.settle.new.new ++ c.split_at_mut-new.result.1.now)) c.split_at_mut-values.result.1.now c.args.values.now c.split_at_mut-values.ensures.back (grind arith);
+      bytes = end_behind 4160 c.bytes-4-1.given.0 c.split_at_mut-bytes.result.1.now c.args.bytes.now c.split_at_mut-bytes.ensures.back (search rules);
+    }
 
 pub copy_values-requires : goal.copy_values-requires
 copy_values-requires g c =
