@@ -1,14 +1,16 @@
 // A graph solved in memory that was brought: the values of its standing records, or the ring that forbids them.
-ghost use Rattle.std.specs.Prelude.{◌≡◌, ◌<◌, ◌≤◌, true, length};
+ghost use Rattle.std.specs.Prelude.{◌≡◌, ◌<◌, ◌≤◌, true, length, MatchResult};
 ghost use Rattle.model.specs.Limits.{within_limits};
 ghost use Rattle.model.specs.Views.{View};
 ghost use Rattle.model.specs.declared.thresholds.Thresholds.{Thresholds};
 ghost use Rattle.paths.specs.Bests.{Best, Forbids};
 ghost use Rattle.grading.specs.Graphs.{Draws};
-ghost use Rattle.grading.specs.Problems.{Costs, Copied, Spells};
+ghost use Rattle.paths.specs.Descents.{Loop};
+ghost use Rattle.grading.specs.Settling.{Settled};
+ghost use Rattle.grading.specs.Problems.{at, problem_steps, Costs, Copied, Spells};
 ghost use Rattle.grading.specs.Outcomes.{memory, brought, enough, suffices, PastKept, SameLent, Attempt};
 
-use crate::descent::write_ring;
+use crate::descent::{Span, write_ring};
 use crate::forbidden::Forbidden;
 use crate::graph::Graph;
 use crate::memory::Memory;
@@ -28,6 +30,23 @@ fn copy_values<V: Scale>(set: u64, from: &[V], to: &mut [V])
             to[u] = *value;
         }
     }
+}
+
+// Settles with its rows in plain bytes: these keep their length in the proof, where an array that is taken from them does not.
+fn settle_in_bytes<V: Scale>(
+    problem: &Problem<V>,
+    old: &mut [V],
+    new: &mut [V],
+    bytes: &mut [u8],
+    walk: &mut [u8; 65],
+) -> Result<(), Span>
+    requires { (length old.old ≡ 64) × (length new.old ≡ 64) × (4096 ≤ length bytes.old) × Costs V.Scale problem.now }
+    ensures { MatchResult result (λ _. Settled V.Scale (problem_steps problem.now) (at V.Scale old.new)) (λ s. Loop V.Scale (problem_steps problem.now) walk.new s.low s.high) }
+{
+    let Some(next) = bytes.as_chunks_mut().0.first_chunk_mut() else {
+        unreachable!()
+    };
+    settle(problem, old, new, next, walk)
 }
 
 // The best values of the problem's view at its standing records, or a ring that forbids them. The memory comes in its parts: of a
@@ -51,11 +70,8 @@ fn solve<V: Scale>(
     let (bytes, _) = bytes.split_at_mut(4160);
     let (old, rest) = values.split_at_mut(64);
     let (new, _) = rest.split_at_mut(64);
-    let Some(next) = bytes.as_chunks_mut().0.first_chunk_mut() else {
-        unreachable!()
-    };
     let mut walk = [0; 65];
-    match settle(problem, old, new, next, &mut walk) {
+    match settle_in_bytes(problem, old, new, bytes, &mut walk) {
         Ok(()) => {
             copy_values(problem.graph.standing, old, grades);
             Ok(())
