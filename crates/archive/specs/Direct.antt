@@ -83,3 +83,8 @@ pub data ReplyTells : Reply → ℕ → ℕ → Type 0 where
 abbrev pub DirectUpheld : {S : Type 0} → Ghosts S → Type 0
 DirectUpheld {S} s = (below : S) (f g : Folder S) (calls : List Call) (replies : List Reply) → account_of s f ≡ opened (meaning_of s below)
     → Direct s f calls replies g → Upheld s RightReply ReplyTells (change (Ok tt)) below calls g replies
+
+-- a new folder over a sheet, in which u was entered and which was then graded loosely, with what both calls gave
+abbrev pub EnteredAndGraded : {S : Type 0} → Ghosts S → S → ℕ → Thresholds → (before after : Memory Whole) → Folder S × Result (Unit {0}) Decline × Result (Unit {0}) Decline → Type 0
+EnteredAndGraded s below u t before after (folder, first, second) =
+    Upheld s RightReply ReplyTells (change (Ok tt)) below (Enter u ∷ Loose t ∷ []) folder (change first ∷ loosely before after second ∷ [])

@@ -4,9 +4,12 @@
 pub mod answer;
 pub mod call;
 pub mod desk;
+pub mod example;
 mod grades;
 mod listing;
 mod ratio;
 mod refusal;
 pub mod replay;
+#[cfg(test)]
+mod tests;
 pub mod theorems;
