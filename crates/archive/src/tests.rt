@@ -53,7 +53,10 @@ fn a_desk_answers_as_direct_calls_do(rt: HostRuntime) {
         (
             Ok(least),
             Answer::Ratio {
-                marks, hops, ring, ..
+                marks,
+                hops,
+                ring,
+                ..
             },
         ) => {
             assert_eq!(rt; (least.marks, least.hops, least.ring), (1, 2, 3));

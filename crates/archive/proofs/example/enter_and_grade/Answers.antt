@@ -10,5 +10,5 @@ returns g c =
     let before = brought c.args.memory.now in
     let after = brought c.graded-given.new.memory in
     direct_upheld g.S.Sheet c.args.sheet c.new-folder.result c.enter-entered.new.self _ _ c.new-folder.ensures.account
-        (then (enter c.args.u c.enter-entered.new.self c.enter-entered.result c.enter-entered.ensures.account)
-        (then (asked (Loose t) (loosely before after c.graded-given.result) (loose t before after c.graded-given.result c.graded-given.ensures.graded)) idle))
+    (then (enter c.args.u c.enter-entered.new.self c.enter-entered.result c.enter-entered.ensures.account)
+    (then (asked (Loose t) (loosely before after c.graded-given.result) (loose t before after c.graded-given.result c.graded-given.ensures.graded)) idle))
