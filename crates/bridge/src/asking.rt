@@ -1,131 +1,89 @@
 // One question, asked of a sheet so many times, in values of the kind that its grades have.
-use crate::Answer;
-use grading::kinds::{Kind, graded};
+ghost use Rattle.std.specs.Prelude.{◌≡◌, ℕ, ◌<◌, ◌≤◌, true, length, slice_index_or, MatchOption};
+ghost use Rattle.model.specs.Views.{View};
+ghost use Rattle.sheet.specs.Views.{view_of};
+ghost use Rattle.grading.specs.Outcomes.{brought, suffices, SameLent};
+ghost use Rattle.bridge.specs.Answers.{Asking, Answered, Handed, Asked};
+
+use crate::answer::{Answer, Told, numbers};
 use grading::memory::Memory;
-use grading::ratio::least_ratio;
 use model::decline::Decline;
-use model::thresholds::Thresholds;
-use scale::pair::Pair;
 use scale::scale::Scale;
-use scale::unit::Unit;
-use scale::whole::Whole;
 use sheet::meaning::Sheet;
 
-// A kind of grading whose grades go back as one number each.
-pub trait Told: Kind {
-    fn number(self) -> i64;
-}
-
-impl Told for Whole {
-    fn number(self) -> i64 {
-        self.value
-    }
-}
-
-// A strict grade a, b is 128*a + b in parts of 128. Both can be read back from that, since b lies from -64 to 0.
-impl Told for Pair<Whole, Unit> {
-    fn number(self) -> i64 {
-        self.first
-            .value
-            .saturating_mul(128)
-            .saturating_add(self.second.value)
-    }
-}
-
 // What is asked in grades of a kind. Its answer has marks and hops, and grades in the memory.
-pub trait Question<V>: Copy {
-    fn asked<S: Sheet>(self, sheet: &S, memory: &mut Memory<'_, V>) -> Result<(u8, u8), Decline>;
+pub(crate) trait Question<V: Scale>: Copy {
+    // what answers it, by what stands
+    ghost asking: { Self → View → Asking V };
+
+    // in memory that is enough, where all grades are nothing
+    fn asked<S: Sheet>(self, sheet: &S, memory: &mut Memory<'_, V>) -> Result<(u8, u8), Decline>
+        requires room { suffices (brought memory.old) ≡ true }
+        requires cleared { (u : ℕ) → u < 64 → slice_index_or memory.old.grades.now u V.nothing ≡ V.nothing }
+        ensures answered { Answered (view_of S.Sheet sheet.now) V.nothing (asking self (view_of S.Sheet sheet.now)) memory.new.grades.now result }
+        ensures same { SameLent memory.old memory.new };
 }
 
-#[derive(Clone, Copy)]
-pub struct Grading {
-    thresholds: Thresholds,
-}
-
-impl Grading {
-    pub fn at(t1: u32, t2: u32) -> Grading {
-        Grading {
-            thresholds: Thresholds { t1, t2 },
-        }
-    }
-}
-
-#[derive(Clone, Copy)]
-pub struct LeastRatio;
-
-// Grades alone, and no marks and hops.
-impl<V: Kind> Question<V> for Grading {
-    fn asked<S: Sheet>(self, sheet: &S, memory: &mut Memory<'_, V>) -> Result<(u8, u8), Decline> {
-        graded(sheet, self.thresholds, memory).map(|()| (0, 0))
-    }
-}
-
-impl Question<Whole> for LeastRatio {
-    fn asked<S: Sheet>(
-        self,
-        sheet: &S,
-        memory: &mut Memory<'_, Whole>,
-    ) -> Result<(u8, u8), Decline> {
-        least_ratio(sheet, memory).map(|least| (least.marks, least.hops))
-    }
-}
-
-fn note(answer: &mut Answer, given: Result<(u8, u8), Decline>) {
-    (answer.marks, answer.hops, answer.number) = match given {
-        Ok((marks, hops)) => (marks, hops, 0),
-        Err(decline) => (0, 0, decline.number()),
-    };
-}
-
-fn clear<V: Scale>(values: &mut [V]) {
-    for value in values {
+fn clear<V: Scale>(values: &mut [V])
+    ensures { (u : ℕ) → u < length values.old → slice_index_or values.new u V.nothing ≡ V.nothing }
+{
+    for value in values.iter_mut() {
         *value = V::nothing();
     }
 }
 
-fn ask<S: Sheet, V: Told, Q: Question<V>>(
+// The question once, in cleared memory.
+fn ask_once<S: Sheet, V: Scale, Q: Question<V>>(
+    sheet: &S,
+    question: Q,
+    grades: &mut [V],
+    values: &mut [V],
+) -> Result<(u8, u8), Decline>
+    requires room { (64 ≤ length grades.old) × (4160 ≤ length values.old) }
+    ensures { Answered (view_of S.Sheet sheet.now) V.nothing (Q.asking question (view_of S.Sheet sheet.now)) grades.new result }
+{
+    clear(grades);
+    clear(values);
+    let mut memory = Memory {
+        grades,
+        ring: &mut [0; 64],
+        values,
+        bytes: &mut [0; 4160],
+    };
+    question.asked(sheet, &mut memory)
+}
+
+// So many times, each time anew. What the last time gave, with its grades.
+fn ask_often<S: Sheet, V: Scale, Q: Question<V>>(
+    sheet: &S,
+    question: Q,
+    times: u32,
+    grades: &mut [V],
+    values: &mut [V],
+) -> Option<Result<(u8, u8), Decline>>
+    requires room { (64 ≤ length grades.old) × (4160 ≤ length values.old) }
+    ensures { MatchOption result (times ≡ 0) (λ given. (0 < times) × Answered (view_of S.Sheet sheet.now) V.nothing (Q.asking question (view_of S.Sheet sheet.now)) grades.new given) }
+{
+    let mut last = None;
+    for _ in 0..times {
+        last = Some(ask_once(sheet, question, grades, values));
+    }
+    last
+}
+
+// The last answer in numbers. Where nothing is asked, what was there is kept.
+pub(crate) fn ask<S: Sheet, V: Told, Q: Question<V>>(
     sheet: &S,
     question: Q,
     times: u32,
     grades: &mut [V],
     values: &mut [V],
     answer: &mut Answer,
-) {
-    for _ in 0..times {
-        clear(grades);
-        clear(values);
-        let mut memory = Memory {
-            grades,
-            ring: &mut [0; 64],
-            values,
-            bytes: &mut [0; 4160],
-        };
-        note(answer, question.asked(sheet, &mut memory));
+)
+    requires room { (64 ≤ length grades.old) × (4160 ≤ length values.old) }
+    ensures { Asked times (Handed (view_of S.Sheet sheet.now) V.tells (Q.asking question (view_of S.Sheet sheet.now))) answer.old answer.new }
+{
+    if let Some(given) = ask_often(sheet, question, times, grades, values) {
+        *answer = Answer::of(given, numbers(grades));
     }
-    for (number, grade) in answer.grades.iter_mut().zip(grades.iter()) {
-        *number = grade.number();
-    }
-}
-
-// The arrays are made where their type is known: that so many of another type fit in memory is not.
-pub fn ask_in_wholes<S: Sheet, Q: Question<Whole>>(
-    sheet: &S,
-    question: Q,
-    times: u32,
-    answer: &mut Answer,
-) {
-    let mut grades = [Whole::nothing(); 64];
-    let mut values = [Whole::nothing(); 4160];
-    ask(sheet, question, times, &mut grades, &mut values, answer);
-}
-
-pub fn ask_in_pairs<S: Sheet, Q: Question<Pair<Whole, Unit>>>(
-    sheet: &S,
-    question: Q,
-    times: u32,
-    answer: &mut Answer,
-) {
-    let mut grades = [Pair::nothing(); 64];
-    let mut values = [Pair::nothing(); 4160];
-    ask(sheet, question, times, &mut grades, &mut values, answer);
 }

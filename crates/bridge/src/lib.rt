@@ -1,34 +1,21 @@
 // Questions for a program in another language that measures them: a sheet is filled, and one question is asked of it so many times,
-// each time in cleared memory. Its exports promise nothing themselves; what they call does. No other crate uses it.
+// each time in cleared memory. No other crate uses it.
 #![tactic(auto)]
 
-use crate::asking::{Grading, LeastRatio, ask_in_pairs, ask_in_wholes};
+ghost use Rattle.bridge.specs.Filled.{filled_view};
+ghost use Rattle.bridge.specs.Answers.{Asked};
+ghost use Rattle.bridge.specs.Questions.{LooseHanded, StrictHanded, RatioHanded};
+
+use crate::answer::Answer;
+use crate::questions::{loose, ratio, strict};
 use listsheet::ListSheet;
+use model::thresholds::Thresholds;
 use sheet::bitsheet::BitSheet;
-use sheet::meaning::Sheet;
 
+mod answer;
 mod asking;
-
-// The last answer: the number of its refusal, 0 where it is taken; the grades, a strict one a, b as 128*a + b; and of a least ratio the
-// marks and hops.
-#[repr(C)]
-pub struct Answer {
-    pub grades: [i64; 64],
-    pub marks: u8,
-    pub hops: u8,
-    pub number: u8,
-}
-
-// The sheet with the records standing and the pairs marked. What it declines is left out.
-fn filled<S: Sheet>(mut sheet: S, records: &[u8], pairs: &[[u8; 2]]) -> S {
-    for u in records {
-        let _ = sheet.enter(*u);
-    }
-    for pair in pairs {
-        let _ = sheet.mark(pair[0], pair[1]);
-    }
-    sheet
-}
+mod filling;
+mod questions;
 
 #[unsafe(no_mangle)]
 pub extern "C" fn bits_loose(
@@ -38,10 +25,14 @@ pub extern "C" fn bits_loose(
     t2: u32,
     times: u32,
     answer: &mut Answer,
-) {
-    ask_in_wholes(
-        &filled(BitSheet::new(), records, pairs),
-        Grading::at(t1, t2),
+)
+    ensures { Asked times (LooseHanded (filled_view 4032 records.now pairs.now) (record { t1 = t1; t2 = t2 })) answer.old answer.new }
+{
+    loose(
+        BitSheet::new(),
+        records,
+        pairs,
+        Thresholds { t1, t2 },
         times,
         answer,
     );
@@ -55,23 +46,24 @@ pub extern "C" fn bits_strict(
     t2: u32,
     times: u32,
     answer: &mut Answer,
-) {
-    ask_in_pairs(
-        &filled(BitSheet::new(), records, pairs),
-        Grading::at(t1, t2),
+)
+    ensures { Asked times (StrictHanded (filled_view 4032 records.now pairs.now) (record { t1 = t1; t2 = t2 })) answer.old answer.new }
+{
+    strict(
+        BitSheet::new(),
+        records,
+        pairs,
+        Thresholds { t1, t2 },
         times,
         answer,
     );
 }
 
 #[unsafe(no_mangle)]
-pub extern "C" fn bits_ratio(records: &[u8], pairs: &[[u8; 2]], times: u32, answer: &mut Answer) {
-    ask_in_wholes(
-        &filled(BitSheet::new(), records, pairs),
-        LeastRatio,
-        times,
-        answer,
-    );
+pub extern "C" fn bits_ratio(records: &[u8], pairs: &[[u8; 2]], times: u32, answer: &mut Answer)
+    ensures { Asked times (RatioHanded (filled_view 4032 records.now pairs.now)) answer.old answer.new }
+{
+    ratio(BitSheet::new(), records, pairs, times, answer);
 }
 
 #[unsafe(no_mangle)]
@@ -82,10 +74,14 @@ pub extern "C" fn list_loose(
     t2: u32,
     times: u32,
     answer: &mut Answer,
-) {
-    ask_in_wholes(
-        &filled(ListSheet::new(), records, pairs),
-        Grading::at(t1, t2),
+)
+    ensures { Asked times (LooseHanded (filled_view 512 records.now pairs.now) (record { t1 = t1; t2 = t2 })) answer.old answer.new }
+{
+    loose(
+        ListSheet::new(),
+        records,
+        pairs,
+        Thresholds { t1, t2 },
         times,
         answer,
     );
@@ -99,21 +95,22 @@ pub extern "C" fn list_strict(
     t2: u32,
     times: u32,
     answer: &mut Answer,
-) {
-    ask_in_pairs(
-        &filled(ListSheet::new(), records, pairs),
-        Grading::at(t1, t2),
+)
+    ensures { Asked times (StrictHanded (filled_view 512 records.now pairs.now) (record { t1 = t1; t2 = t2 })) answer.old answer.new }
+{
+    strict(
+        ListSheet::new(),
+        records,
+        pairs,
+        Thresholds { t1, t2 },
         times,
         answer,
     );
 }
 
 #[unsafe(no_mangle)]
-pub extern "C" fn list_ratio(records: &[u8], pairs: &[[u8; 2]], times: u32, answer: &mut Answer) {
-    ask_in_wholes(
-        &filled(ListSheet::new(), records, pairs),
-        LeastRatio,
-        times,
-        answer,
-    );
+pub extern "C" fn list_ratio(records: &[u8], pairs: &[[u8; 2]], times: u32, answer: &mut Answer)
+    ensures { Asked times (RatioHanded (filled_view 512 records.now pairs.now)) answer.old answer.new }
+{
+    ratio(ListSheet::new(), records, pairs, times, answer);
 }

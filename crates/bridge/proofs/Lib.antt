@@ -1,0 +1,2 @@
+pub mod Declining
+pub mod Handing

@@ -1,0 +1,4 @@
+pub mod Filled
+pub mod Answers
+pub mod Questions
+pub mod ToldLaws
