@@ -10,9 +10,6 @@ pub record Asking (V : Type 0) : Type 1 where
   pub right : ℕ → ℕ → (ℕ → V) → Type 0
   pub declines : ℕ → Type 0
 
-abbrev pub asking : {V : Type 0} → (ℕ → ℕ → (ℕ → V) → Type 0) → (ℕ → Type 0) → Asking V
-asking right declines = record { right = right; declines = declines }
-
 -- ---- in the memory, where nothing was before
 -- right grades at the standing records, and nothing at all other places
 pub record Found {V : Type 0} (w : View) (none : V) (fits : (ℕ → V) → Type 0) (after : List V) : Type 0 where

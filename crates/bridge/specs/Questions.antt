@@ -13,7 +13,7 @@ use Rattle.scale.specs.Units.{UnitExtent}
 use Rattle.scale.specs.Pairs.{PairExtent}
 use Rattle.paths.specs.Numbers.{BestLoose, ForbidsLoosely, BestStrict, ForbidsStrictly, merged}
 use Rattle.bridge.specs.declared.answer.Answer.{Answer}
-use Rattle.bridge.specs.Answers.{Asking, asking, Handed}
+use Rattle.bridge.specs.Answers.{Asking, Handed}
 
 -- the best loose grades, as values of the whole scale
 unfoldable pub BestWholes : View → Thresholds → (ℕ → Whole) → Type 0
@@ -40,7 +40,7 @@ pub record Forbidden (t : Thresholds) (forbids : List ℕ → Type 0) (n : ℕ) 
   pub forbidden : forbids ring
 
 abbrev pub asking_grades : {V : Type 0} → Thresholds → ((ℕ → V) → Type 0) → (List ℕ → Type 0) → Asking V
-asking_grades t asked forbids = asking (Graded t asked) (λ n. Outside t n ⊎ Forbidden t forbids n)
+asking_grades t asked forbids = record { right = Graded t asked; declines = λ n. Outside t n ⊎ Forbidden t forbids n }
 
 -- ---- the least ratio
 -- the least ratio of marks to hops, and the best loose grades at it
@@ -56,7 +56,7 @@ pub record Circled (w : View) (n : ℕ) : Type 0 where
   pub circle : Circle w ring
 
 abbrev pub asking_least : View → Asking Whole
-asking_least w = asking (Least w) (Circled w)
+asking_least w = record { right = Least w; declines = Circled w }
 
 -- ---- numbers of grades
 abbrev pub whole_told : Whole → ℤ → Type 0
