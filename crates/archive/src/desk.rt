@@ -66,6 +66,7 @@ fn answer_in<S: Sheet>(folder: &mut Folder<S>, rooms: &mut Rooms, call: Call) ->
     }
 }
 
+// A folder at work: with the memory that its gradings need, some 150 kB, so that no call asks a heap.
 #[derive(Drop)]
 pub struct Desk<S: Sheet> {
     folder: Folder<S>,
@@ -74,7 +75,7 @@ pub struct Desk<S: Sheet> {
 }
 
 impl<S: Sheet> Desk<S> {
-    // A new folder over the sheet.
+    // A new folder over the sheet: nothing is set aside.
     pub fn open(sheet: S) -> Desk<S>
         ensures { account_of S.Sheet result.folder ≡ opened (meaning_of S.Sheet sheet) }
     {
@@ -84,13 +85,15 @@ impl<S: Sheet> Desk<S> {
         }
     }
 
+    // The folder, to ask it questions or to grade it in other memory.
     pub fn folder(&self) -> &Folder<S>
         ensures { result.now ≡ self.now.folder }
     {
         &self.folder
     }
 
-    // One call: what it makes of the folder's account, and its answer.
+    // One call: it is taken, or declined by the first check that fails, as the account says; gradings and the least ratio are answered by
+    // what then stands. No call is declined by 1.
     pub fn answer(&mut self, call: Call) -> Answer
         ensures { Answered (account_of S.Sheet self.old.folder) call (account_of S.Sheet self.new.folder) result }
     {

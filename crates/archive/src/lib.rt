@@ -10,6 +10,7 @@ mod listing;
 mod ratio;
 mod refusal;
 pub mod replay;
+mod shown;
 #[cfg(test)]
 mod tests;
 pub mod theorems;

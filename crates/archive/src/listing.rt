@@ -2,61 +2,11 @@
 ghost use Rattle.std.specs.Prelude.{◌≡◌, ℕ, ◌<◌, ◌≤◌, true, length, slice_index_or};
 ghost use Rattle.sheet.specs.Views.{view_of};
 ghost use Rattle.archive.specs.Entries.{entries_below};
-ghost use Rattle.archive.specs.Shown.{whole_shown, unit_shown, pair_shown, Always, PartFits};
 
-use crate::answer::{Graded, StrictGrade};
+use crate::answer::Graded;
+use crate::shown::Shown;
 use arrayvec::ArrayVec;
-use scale::pair::Pair;
-use scale::scale::Scale;
-use scale::unit::Unit;
-use scale::whole::Whole;
 use sheet::meaning::Sheet;
-
-// A value as an answer has it.
-pub trait Shown<G>: Scale {
-    // what is shown of a value
-    ghost shown: { Self → G };
-
-    // the values that have room there
-    ghost fits: { Self → Type 0 };
-
-    fn shown(self) -> G
-        requires { fits self }
-        ensures { result ≡ shown self };
-}
-
-impl Shown<i64> for Whole {
-    ghost shown = { whole_shown };
-
-    ghost fits = { Always };
-
-    fn shown(self) -> i64 {
-        self.value
-    }
-}
-
-impl Shown<i64> for Unit {
-    ghost shown = { unit_shown };
-
-    ghost fits = { Always };
-
-    fn shown(self) -> i64 {
-        self.value
-    }
-}
-
-impl Shown<StrictGrade> for Pair<Whole, Unit> {
-    ghost shown = { pair_shown };
-
-    ghost fits = { PartFits };
-
-    fn shown(self) -> StrictGrade {
-        StrictGrade {
-            a: self.first.value,
-            b: self.second.value as i8,
-        }
-    }
-}
 
 // Whether u is part of a grading.
 fn stands<S: Sheet>(sheet: &S, u: u8) -> bool
@@ -65,6 +15,7 @@ fn stands<S: Sheet>(sheet: &S, u: u8) -> bool
     sheet.state(u).stands()
 }
 
+// The standing records, each with its grade as an answer shows it.
 pub fn list_grades<S: Sheet, G: Copy + Default, V: Shown<G>>(
     sheet: &S,
     grades: &[V],
