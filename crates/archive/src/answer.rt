@@ -9,7 +9,7 @@ pub struct StrictGrade {
     pub b: i8,
 }
 
-// One record, below 64, and its grade.
+// One standing record and its grade.
 #[derive(Clone, Copy, Default)]
 pub struct Graded<G> {
     pub record: u8,

@@ -1,14 +1,18 @@
-// What no script can show: memory that is too small, and grading on a pair of scales of one's own choosing.
+// What no script can show: memory or output that is too small, unit grading outside the limits, and grading on a pair of scales of one's own
+// choosing.
 use archive::answer::Answer;
+use archive::desk::Desk;
+use dispatch::dispatch::dispatch_into;
 use grading::grade::grade;
 use grading::kinds::graded;
-use grading::memory::Memory;
+use grading::memory::{Memory, Room};
 use model::thresholds::Thresholds;
 use scale::pair::Pair;
 use scale::scale::Scale;
 use scale::unit::Unit;
 use scale::whole::Whole;
 use script::print::print;
+use script::step::step;
 use sheet::bitsheet::BitSheet;
 use sheet::meaning::Sheet;
 
@@ -75,4 +79,42 @@ fn a_line_needs_2048_bytes(rt: HostRuntime) {
     assert_eq!(rt; print(&Answer::Taken, &mut out).ok(), Some(3));
     assert_eq!(rt; out[2], 10);
     assert_eq!(rt; out[3], 9);
+}
+
+#[test]
+fn a_step_with_too_few_bytes_takes_no_call(rt: HostRuntime) {
+    let mut desk = Desk::open(BitSheet::new());
+    let mut out = [9; 2048];
+    assert!(rt; step(&mut desk, b"e 0\n", &mut out[..2047]).is_err());
+    assert!(rt; out[0] == 9 && !desk.folder().state(0).stands());
+    assert_eq!(rt; step(&mut desk, b"e 0\n", &mut out).ok(), Some(3));
+    assert!(rt; out[2] == 10 && out[3] == 9 && desk.folder().state(0).stands());
+}
+
+#[test]
+fn unit_grading_checks_its_thresholds(rt: HostRuntime) {
+    let mut room = Room::<Unit>::new();
+    let mut memory = room.lend();
+    let r = graded(&one_mark(), Thresholds { t1: 0, t2: 0 }, &mut memory);
+    assert_eq!(rt; r.err().map(|d| d.number()), Some(11));
+    assert!(rt; graded(&one_mark(), Thresholds { t1: 7, t2: 9 }, &mut memory).is_ok());
+    assert_eq!(rt; memory.grades[0].value, -1);
+}
+
+// Records 0 and 1 and the mark from 0 to 1. No ring has a mark: the depths are those for t1 = 1 and t2 = 0, 1 and 0, and there is no ring.
+#[test]
+fn a_release_of_a_script_needs_no_heap(rt: HostRuntime) {
+    let script = b"bits\ne 0\ne 1\nm 0 1\n";
+    let mut room = Room::new();
+    let mut out = [9; 13];
+    let short = dispatch_into(script, &mut room.lend(), &mut out[..11]);
+    assert_eq!(rt; short.err().map(|d| d.number()), Some(1));
+    let unnamed = dispatch_into(b"bit\n", &mut room.lend(), &mut out);
+    assert_eq!(rt; unnamed.err().map(|d| d.number()), Some(17));
+    assert!(rt; out == [9; 13]);
+    assert_eq!(rt;
+        dispatch_into(script, &mut room.lend(), &mut out).ok(),
+        Some(13)
+    );
+    assert!(rt; out == [2, 0, 1, 1, 0, 0, 1, 2, 1, 0, 0, 0, 0]);
 }
