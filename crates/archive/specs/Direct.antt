@@ -27,8 +27,8 @@ use Rattle.archive.specs.Accounts.{stands_in}
 use Rattle.archive.specs.Right.{Right}
 use Rattle.archive.specs.Histories.{Upheld}
 
--- what a call gave: a result, and from a grading or a least ratio also the memory that was brought, as it was before and after; unit
--- grading was given thresholds, that only have to be within the limits
+-- what a call gave: a result, and from a grading or a least ratio also the memory that was brought, as it was before and after. Unit
+-- grading was given thresholds too: its grades do not go by them, but those outside the limits are declined
 pub data Reply : Type 0 where
   change : Result (Unit {0}) Decline → Reply
   loosely : (before after : Memory Whole) → Result (Unit {0}) Decline → Reply

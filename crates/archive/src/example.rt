@@ -1,5 +1,5 @@
 // How a program that calls a folder directly cites the theorem on such calls.
-ghost use Rattle.grading.specs.Outcomes.{brought};
+ghost use Rattle.grading.specs.Outcomes.{brought, SameLent};
 ghost use Rattle.archive.specs.Direct.{EnteredAndGraded};
 
 use grading::kinds::graded;
@@ -18,7 +18,8 @@ pub fn enter_and_grade<S: Sheet>(
     thresholds: Thresholds,
     memory: &mut Memory<'_, Whole>,
 ) -> (Folder<S>, Result<(), Decline>, Result<(), Decline>)
-    ensures { EnteredAndGraded S.Sheet sheet u thresholds (brought memory.old) (brought memory.new) result }
+    ensures upheld { EnteredAndGraded S.Sheet sheet u thresholds (brought memory.old) (brought memory.new) result }
+    ensures same { SameLent memory.old memory.new }
 {
     let mut folder = Folder::new(sheet);
     let entered = folder.enter(u);

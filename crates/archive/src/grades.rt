@@ -43,7 +43,7 @@ pub fn strict_answer<S: Sheet>(
     }
 }
 
-// Whatever thresholds are given, those of the unit count.
+// Unit grading takes whatever thresholds are within the limits: these are.
 pub fn unit_answer<S: Sheet>(sheet: &S, memory: &mut Memory<'_, Unit>) -> Answer
     requires { suffices (brought memory.old) ≡ true }
     ensures { UnitTold (view_of S.Sheet sheet.now) result }

@@ -53,7 +53,7 @@ impl Question<Whole> for LeastRatio {
     }
 }
 
-// The arrays are made where their type is known: that so many of another type fit in memory is not.
+// The arrays are made where their type is known: of arrays of any kind, made in the function that lends them, the proof did not close.
 fn ask_in_wholes<S: Sheet + Drop, Q: Question<Whole>>(
     new: S,
     records: &[u8],

@@ -4,8 +4,8 @@ use Rattle.archive.specs.Direct.{enter, asked, loose, loosely, idle, then}
 use Rattle.archive.proofs.Direct.{direct_upheld}
 use Rattle.archive.proofs.example.enter_and_grade.Goals as goal
 
-pub returns : goal.returns
-returns g c =
+pub returns-clause-upheld : goal.returns-clause-upheld
+returns-clause-upheld g c =
     let t = c.args.thresholds in
     let before = brought c.args.memory.now in
     let after = brought c.graded-given.new.memory in
