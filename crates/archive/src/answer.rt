@@ -2,7 +2,7 @@
 use arrayvec::ArrayVec;
 use model::decline::Decline;
 
-// A strict grade a, b: it stands for 128*a + b to the denominator 128. b is minus the marks of a walk of at most 64 steps.
+// A strict grade a, b, to be read as 128*a + b in parts of 128. b is minus the marks of a walk of at most 64 steps.
 #[derive(Clone, Copy, Default)]
 pub struct StrictGrade {
     pub a: i64,

@@ -5,7 +5,7 @@ ghost use Rattle.grading.specs.Outcomes.{memory, brought, suffices};
 use crate::forbidden::Forbidden;
 use scale::scale::Scale;
 
-// 64 places for grades, 64 bytes for a ring, and scratch of 4,160 values and 4,160 bytes. It may be more; what is more is kept on
+// Grades have 64 places and a ring 64 bytes; scratch is 4,160 values and as many bytes. It may be more; what is more is kept on
 // every outcome, in scratch too.
 // Calls inside ask that each part has its size, by a clause: a type for that would be a second struct of the same four parts. And each
 // call says that the same slices are lent after it, which no invariant can: it speaks of before and after.
