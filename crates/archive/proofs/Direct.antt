@@ -32,10 +32,10 @@ tells (Err d) = refl
 
 -- what asks of a view asks of the view that the account tells
 asked_right : {S : Type 0} (s : Ghosts S) (f : Folder S) (c : Call) (x : Reply) → Finds (shown_in s f) c x → Tended RightReply (account_of s f) c (account_of s f) x
-asked_right s f c x (loose t before after r o) = asking_tended (Loose t) (λ w. Finds w (Loose t) (loosely before after r)) refl (found (Loose t) (loosely before after r)) (loose t before after r o)
-asked_right s f c x (strict t before after r o) = asking_tended (Strict t) (λ w. Finds w (Strict t) (strictly before after r)) refl (found (Strict t) (strictly before after r)) (strict t before after r o)
-asked_right s f c x (unit t before after r o) = asking_tended Units (λ w. Finds w Units (in_units t before after r)) refl (found Units (in_units t before after r)) (unit t before after r o)
-asked_right s f c x (ratio before after r o) = asking_tended Ratio (λ w. Finds w Ratio (in_ratio before after r)) refl (found Ratio (in_ratio before after r)) (ratio before after r o)
+asked_right s f c x (loose t before after r o m) = asking_tended (Loose t) (λ w. Finds w (Loose t) (loosely before after r)) refl (found (Loose t) (loosely before after r)) (loose t before after r o m)
+asked_right s f c x (strict t before after r o m) = asking_tended (Strict t) (λ w. Finds w (Strict t) (strictly before after r)) refl (found (Strict t) (strictly before after r)) (strict t before after r o m)
+asked_right s f c x (unit t before after r o m) = asking_tended Units (λ w. Finds w Units (in_units t before after r)) refl (found Units (in_units t before after r)) (unit t before after r o m)
+asked_right s f c x (ratio before after r o m) = asking_tended Ratio (λ w. Finds w Ratio (in_ratio before after r)) refl (found Ratio (in_ratio before after r)) (ratio before after r o m)
 
 made_right : {S : Type 0} (s : Ghosts S) (f g : Folder S) (c : Call) (x : Reply) → Made s f c x g → Tended RightReply (account_of s f) c (account_of s g) x
 made_right s f h c x (enter u g r p) = enter_tended (λ n. changed (Enter u) r (plainly r n (tells r))) p
@@ -76,11 +76,11 @@ module _ (w : View) (before after : Memory Whole) where
 
 reply_ratio : (a : Account) (c : Call) (x : Reply) (e h : ℕ) → RightReply a c x → ReplyTells x e h → RatioOf (stands_in a) e h
 reply_ratio a c x e h (changed d r p) t = elim t [ ]
-reply_ratio a c x e h (found d y (loose u before after r o)) t = elim t [ ]
-reply_ratio a c x e h (found d y (strict u before after r o)) t = elim t [ ]
-reply_ratio a c x e h (found d y (unit u before after r o)) t = elim t [ ]
-reply_ratio a c x e h (found d y (ratio before after r o)) (given m n q) = least_found (stands_in a) before after _ o
-reply_ratio a c x e h (found d y (ratio before after r o)) (circle m n b is) = circle_found (stands_in a) before after _ is o
+reply_ratio a c x e h (found d y (loose u before after r o m)) t = elim t [ ]
+reply_ratio a c x e h (found d y (strict u before after r o m)) t = elim t [ ]
+reply_ratio a c x e h (found d y (unit u before after r o m)) t = elim t [ ]
+reply_ratio a c x e h (found d y (ratio before after r o m)) (given p q n) = least_found (stands_in a) before after _ o
+reply_ratio a c x e h (found d y (ratio before after r o m)) (circle p q b is) = circle_found (stands_in a) before after _ is o
 
 pub direct_upheld : {S : Type 0} (s : Ghosts S) → DirectUpheld s
 direct_upheld s below f g cs xs start direct =

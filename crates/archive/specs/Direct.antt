@@ -17,7 +17,7 @@ use Rattle.layers.specs.Folders.{Account, opened, seen}
 use Rattle.layers.specs.FolderCalls.{account_of, EntersIn, MarksIn, StrikesIn, SetsAside, BringsBack}
 use Rattle.grading.specs.declared.ratio.Ratio.{Ratio as Finding}
 use Rattle.grading.specs.Kinds.{loose_asked, strict_asked, unit_asked, loose_forbidden, strict_forbidden, unit_forbidden}
-use Rattle.grading.specs.Outcomes.{Memory, Outcome}
+use Rattle.grading.specs.Outcomes.{Memory, PastKept, Outcome}
 use Rattle.grading.specs.Ratios.{RatioFound}
 use Rattle.archive.specs.declared.call.Call.{Call}
 use Rattle.archive.specs.declared.call.Call.TheVariants.{Enter, Mark, Strike, SetAside, BringBack, Loose, Strict, Unit as Units, Ratio}
@@ -36,15 +36,15 @@ pub data Reply : Type 0 where
   in_units : Thresholds → (before after : Memory UnitValue) → Result (Unit {0}) Decline → Reply
   in_ratio : (before after : Memory Whole) → Result Finding Decline → Reply
 
--- what a grading, or the least ratio, of what stands in w gives, in whatever memory
+-- what a grading, or the least ratio, of what stands in w gives, in whatever memory, and what it leaves there; past the stated sizes all is kept
 pub data Finds (w : View) : Call → Reply → Type 0 where
   loose : (t : Thresholds) (before after : Memory Whole) (r : Result (Unit {0}) Decline)
-      → Outcome w t (loose_asked w t) (of_whole (pos 0)) (loose_forbidden w t) before after r → Finds w (Loose t) (loosely before after r)
+      → Outcome w t (loose_asked w t) (of_whole (pos 0)) (loose_forbidden w t) before after r → PastKept before after → Finds w (Loose t) (loosely before after r)
   strict : (t : Thresholds) (before after : Memory (Pair Whole UnitValue)) (r : Result (Unit {0}) Decline)
-      → Outcome w t (strict_asked w t) (both (of_whole (pos 0)) (of_unit (pos 0))) (strict_forbidden w t) before after r → Finds w (Strict t) (strictly before after r)
+      → Outcome w t (strict_asked w t) (both (of_whole (pos 0)) (of_unit (pos 0))) (strict_forbidden w t) before after r → PastKept before after → Finds w (Strict t) (strictly before after r)
   unit : (t : Thresholds) (before after : Memory UnitValue) (r : Result (Unit {0}) Decline)
-      → Outcome w t (unit_asked w t) (of_unit (pos 0)) (unit_forbidden w t) before after r → Finds w Units (in_units t before after r)
-  ratio : (before after : Memory Whole) (r : Result Finding Decline) → RatioFound w before after r → Finds w Ratio (in_ratio before after r)
+      → Outcome w t (unit_asked w t) (of_unit (pos 0)) (unit_forbidden w t) before after r → PastKept before after → Finds w Units (in_units t before after r)
+  ratio : (before after : Memory Whole) (r : Result Finding Decline) → RatioFound w before after r → PastKept before after → Finds w Ratio (in_ratio before after r)
 
 -- what is seen to stand in a folder
 abbrev pub shown_in : {S : Type 0} → Ghosts S → Folder S → View

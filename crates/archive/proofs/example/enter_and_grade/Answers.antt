@@ -11,4 +11,4 @@ returns-clause-upheld g c =
     let after = brought c.graded-given.new.memory in
     direct_upheld g.S.Sheet c.args.sheet c.new-folder.result c.enter-entered.new.self _ _ c.new-folder.ensures.account
     (then (enter c.args.u c.enter-entered.new.self c.enter-entered.result c.enter-entered.ensures.account)
-    (then (asked (Loose t) (loosely before after c.graded-given.result) (loose t before after c.graded-given.result c.graded-given.ensures.graded)) idle))
+    (then (asked (Loose t) (loosely before after c.graded-given.result) (loose t before after c.graded-given.result c.graded-given.ensures.graded c.graded-given.ensures.same.past)) idle))
