@@ -47,7 +47,7 @@ fn add_line<S: Sheet>(
 }
 
 // The opening is answered by `ok`, and then each line of the script, in a new folder over the sheet.
-pub fn run_on<S: Sheet + Drop>(heap: Global, sheet: S, script: &[u8]) -> Result<Vec<u8>, AllocError>
+fn run_on<S: Sheet + Drop>(heap: Global, sheet: S, script: &[u8]) -> Result<Vec<u8>, AllocError>
     ensures { IfOk result (λ v. Opened (meaning_of S.Sheet sheet) script.now v.items) }
 {
     let mut desk = Desk::open(sheet);

@@ -1,17 +1,31 @@
 // A pile of layers over a list sheet, gradings included, and a list sheet that is filled to its last place.
+use archive::desk::Desk;
 use layers::folder::Folder;
 use layers::turn::Turn;
 use listsheet::ListSheet;
 use model::decline::Decline;
-use script::run::run_on;
+use script::step::step;
 use sheet::meaning::Sheet;
 use std::io;
 use std::io::Write;
 
-// The lines of a script in a new folder over the sheet.
-fn over<S: Sheet + Drop>(rt: &HostRuntime, name: &str, sheet: S, lines: &[u8]) -> io::Result<()> {
+// The lines one after another, at a desk over the pile.
+fn over(
+    rt: &HostRuntime,
+    name: &str,
+    pile: Turn<Folder<ListSheet>>,
+    lines: &[u8],
+) -> io::Result<()> {
+    let mut desk = Desk::open(pile);
+    let mut out = [0; 2048];
     println!(rt; "-- {name}")?;
-    rt.stdout().write_all(&run_on(rt.alloc(), sheet, lines)?)
+    for line in lines.split_inclusive(|b| *b == b'\n') {
+        match step(&mut desk, line, &mut out) {
+            Ok(n) => rt.stdout().write_all(&out[..n])?,
+            Err(decline) => println!(rt; "no {}", decline.number())?,
+        }
+    }
+    Ok(())
 }
 
 // Records 0 to 3 and the marks 0 1 and 1 2, in a folder that has set 3 aside.
