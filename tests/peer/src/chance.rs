@@ -1,4 +1,4 @@
-//! Numbers by chance from a seed: the same seed gives the same numbers on every machine (splitmix64).
+//! Numbers at random from a seed: the same seed gives the same numbers on every machine (splitmix64).
 
 #[derive(Clone)]
 pub struct Chance {

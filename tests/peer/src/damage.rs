@@ -1,4 +1,4 @@
-//! Releases by chance, true and damaged: single bytes changed, cut off or added, contents that no longer hold, and long ones.
+//! Releases at random, true and damaged: single bytes changed, cut off or added, contents that no longer hold, and long ones.
 
 use crate::chance::Chance;
 use crate::every;
@@ -122,7 +122,7 @@ fn contents_damaged(chance: &mut Chance, release: &mut Release) {
     }
 }
 
-/// A ring of hops, a ring of marks there and back, or records by chance.
+/// A ring of hops, a ring of marks there and back, or records at random.
 fn other_ring(chance: &mut Chance, release: &Release) -> Vec<u8> {
     let length = chance.within(1, 5) as usize;
     let mut ring: Vec<u8> = (0..length).filter_map(|_| (!release.records.is_empty()).then(|| chance.pick(&release.records))).collect();

@@ -67,7 +67,7 @@ pub fn agrees(view: &View, chance: &mut Chance) -> Result<(), String> {
     Ok(())
 }
 
-/// A folder by chance, of so many records at most.
+/// A folder at random, of so many records at most.
 pub fn view(chance: &mut Chance, most: u64) -> View {
     let count = chance.within(0, most) as usize;
     let records = chance.records(count);

@@ -1,4 +1,4 @@
-//! Scripts by chance: small folders and wide ones, orders with few hops, full lists, wrong lines, wrong first lines, and bytes of no meaning.
+//! Scripts at random: small folders and wide ones, orders with few hops, full lists, wrong lines, wrong first lines, and bytes of no meaning.
 
 use crate::chance::Chance;
 use crate::edges;
@@ -71,7 +71,7 @@ fn order(chance: &mut Chance) -> Vec<u8> {
     writer.done()
 }
 
-/// Many records: a chain, or marks by chance, up to the longest walks that can be.
+/// Many records: a chain, or marks at random, up to the longest walks that can be.
 fn wide(chance: &mut Chance) -> Vec<u8> {
     let count = chance.pick(&[32, 48, 60, 63, 64, 64]);
     let mut writer = Writer::any(chance, count);
@@ -135,7 +135,7 @@ fn wrong_first(chance: &mut Chance) -> Vec<u8> {
     [&edges::first(chance)[..], b"\ne 0\ne 1\nm 0 1\nr\n"].concat()
 }
 
-/// Bytes by chance, from all 256 or from those that scripts are written with, mostly after a first line.
+/// Bytes at random, from all 256 or from those that scripts are written with, mostly after a first line.
 fn no_meaning(chance: &mut Chance) -> Vec<u8> {
     let mut bytes = chance.pick(&[&b"bits\n"[..], b"list\n", b"bits\ne 1\ne 2\n", b""]).to_vec();
     let of_scripts = chance.percent(70);

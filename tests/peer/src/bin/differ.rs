@@ -1,4 +1,4 @@
-//! Compares the proved programs with the second implementation, on scripts and releases by chance from a fixed seed.
+//! Compares the proved programs with the second implementation, on scripts and releases at random from a fixed seed.
 //! differ --judge PROGRAM [--also PROGRAM] [--release PROGRAM] [--seed N] [--scripts N] [--releases N] [--jobs N] [--only PLACE] [--kinds]
 //! --also names the judge as another compiler made it, which has to print the very same bytes.
 //! --only tries one script of the seed; --kinds prints how often each kind of answer was met.
