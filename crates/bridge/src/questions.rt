@@ -53,7 +53,7 @@ impl Question<Whole> for LeastRatio {
     }
 }
 
-// The arrays are made where their type is known: of arrays of any kind, made in the function that lends them, the proof did not close.
+// The arrays are made where their type is known.
 fn ask_in_wholes<S: Sheet + Drop, Q: Question<Whole>>(
     new: S,
     records: &[u8],
