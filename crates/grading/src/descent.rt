@@ -3,9 +3,10 @@ ghost use Rattle.std.specs.Prelude.{◌≡◌, ℕ, ◌+◌, ◌-◌, ◌%◌, �
 ghost use Rattle.paths.specs.Descents.{Walked, Repeat, Written};
 ghost use Rattle.grading.specs.Problems.{problem_steps};
 ghost use Rattle.grading.specs.Settling.{Fallen};
-ghost use Rattle.grading.specs.Rings.{Unseen, Smallest, Placed};
+ghost use Rattle.grading.specs.Rings.{Unseen, Noted, Smallest, Placed};
 
 use crate::problem::Problem;
+use model::bits::{has_bit, with_bit};
 use scale::scale::Scale;
 
 // The places of a walk of 65 at which one record stands, and all between.
@@ -34,11 +35,15 @@ pub fn walk_down<V: Scale>(
     }
 }
 
-// The place below `high` that has the same record.
-fn seen_before(walk: &[u8; 65], high: usize) -> Option<usize>
-    requires { high < 65 }
+// The place below `high` that has the same record. The set has the records of all these places, so that none is looked for where it
+// does not have this one.
+fn seen_before(walk: &[u8; 65], seen: u64, high: usize) -> Option<usize>
+    requires { (high < 65) × Noted walk.now high seen }
     ensures { MatchOption result (Unseen walk.now high high) (λ low. (low < high) × (slice_index walk.now high ≡ slice_index walk.now low)) }
 {
+    if !has_bit(seen, walk[high] as usize) {
+        return None;
+    }
     walk[..high].iter().position(|x| *x == walk[high])
 }
 
@@ -49,10 +54,12 @@ pub fn find_repeat(walk: &[u8; 65], top: usize) -> Option<Span>
     ensures { MatchOption result (top < 64) (λ s. Repeat walk.now s.low s.high × (s.high ≤ top)) }
 {
     // not find_map: the proof that no place before it was one did not close
+    let mut seen = 0;
     for high in 0..=top {
-        if let Some(low) = seen_before(walk, high) {
+        if let Some(low) = seen_before(walk, seen, high) {
             return Some(Span { low, high });
         }
+        seen = with_bit(seen, walk[high] as usize);
     }
     None
 }

@@ -1,5 +1,5 @@
 -- The bits of a word, one by one and counted. Assumes nothing.
-use Rattle.std.proofs.Common.{◌≡◌, ℕ, zero, suc, ◌-◌, ◌*◌, ◌/◌, ◌%◌, ◌^◌, ◌<◌, ◌≤◌, min, Bool, true, false, not, ◌&&◌, eqb, ltb, ◌⊎◌, ◌≢◌, sym, refl, ap, ◌∙◌, subst, ap₂, inl, inr, add-one, arith, shr_lt}
+use Rattle.std.proofs.Common.{◌≡◌, ℕ, zero, suc, ◌-◌, ◌*◌, ◌/◌, ◌%◌, ◌^◌, ◌<◌, ◌≤◌, min, Bool, true, false, not, cond, ◌&&◌, eqb, ltb, ◌⊎◌, ◌≢◌, sym, refl, ap, ◌∙◌, subst, ap₂, inl, inr, add-one, arith, shr_lt}
 use mathlib.Core.Path.{fun_ext}
 use Rattle.std.proofs.Math.Bool.{and-false}
 use lib.Bits.{bit_or, bit_and, and_le_l}
@@ -51,6 +51,15 @@ put_here f u b = simp (eq-eqb u u refl)
 pub put_other : (f : ℕ → Bool) (u x : ℕ) (b : Bool) → x ≢ u → put f u b x ≡ f x
 unfolding put
 put_other f u x b ne = simp (ne_eqb x u ne)
+
+-- with one number more, all that were in are in still
+pub put_more : (f : ℕ → Bool) (u x : ℕ) → f x ≡ true → put f u true x ≡ true
+unfolding put
+put_more f u x h = go (eqb x u)
+  where
+    go : (t : Bool) → cond t true (f x) ≡ true
+    go true = refl
+    go false = h
 
 pub has_zero : (u : ℕ) → has 0 u ≡ false
 unfolding has

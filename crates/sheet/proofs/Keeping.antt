@@ -5,7 +5,7 @@ use Rattle.std.proofs.lemmas.Bool.{ne_eqb}
 use Rattle.model.specs.declared.decline.Decline.{Decline}
 use Rattle.model.specs.Refusals.{number_of}
 use Rattle.model.specs.Sets.{has, put}
-use Rattle.model.proofs.Digits.{has_zero}
+use Rattle.model.proofs.Digits.{put_more, has_zero}
 use Rattle.sheet.specs.declared.state.State.TheVariants.{Absent, Standing}
 use Rattle.sheet.specs.Meanings.{empty}
 use Rattle.sheet.specs.Checks.{entry_check, enter_check, pair_check, mark_check, strike_check}
@@ -38,14 +38,6 @@ states_put f u = fun_ext (λ x. go (eqb x u) (f x))
     go : (t b : Bool) → cond (cond t true b) Standing Absent ≡ cond t Standing (cond b Standing Absent)
     go true b = refl
     go false b = refl
-
-put_more : (f : ℕ → Bool) (u x : ℕ) → f x ≡ true → put f u true x ≡ true
-unfolding put
-put_more f u x h = go (eqb x u)
-  where
-    go : (t : Bool) → cond t true (f x) ≡ true
-    go true = refl
-    go false = h
 
 -- a call that u enters, taken or not, on the word alone: whoever was there is still there
 pub stays : {n : ℕ} {r : Result (Unit {0}) Decline} (present still u : ℕ) → Called n (has present) (put (has present) u true) (has still) r
