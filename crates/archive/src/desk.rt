@@ -66,7 +66,7 @@ fn answer_in<S: Sheet>(folder: &mut Folder<S>, rooms: &mut Rooms, call: Call) ->
     }
 }
 
-// A folder at work: with the memory that its gradings need, some 150 kB, so that no call asks a heap.
+// A folder at work: with the memory that its gradings need, some 150 kB, so that no call takes a heap.
 #[derive(Drop)]
 pub struct Desk<S: Sheet> {
     folder: Folder<S>,

@@ -35,8 +35,7 @@ pub fn walk_down<V: Scale>(
     }
 }
 
-// The place below `high` that has the same record. The set has the records of all these places, so that none is looked for where it
-// does not have this one.
+// The place below `high` that has the same record. The set has the records of all these places: one that is not in it is not looked for.
 fn seen_before(walk: &[u8; 65], seen: u64, high: usize) -> Option<usize>
     requires { (high < 65) × Noted walk.now high seen }
     ensures { MatchOption result (Unseen walk.now high high) (λ low. (low < high) × (slice_index walk.now high ≡ slice_index walk.now low)) }
