@@ -1,5 +1,5 @@
 -- The bits of a word, one by one and counted. Assumes nothing.
-use Rattle.std.proofs.Common.{◌≡◌, ℕ, zero, suc, ◌-◌, ◌*◌, ◌/◌, ◌%◌, ◌^◌, ◌<◌, ◌≤◌, min, Bool, true, false, not, cond, ◌&&◌, eqb, ltb, ◌⊎◌, ◌≢◌, sym, refl, ap, ◌∙◌, subst, ap₂, inl, inr, add-one, arith, shr_lt}
+use Rattle.std.proofs.Common.{◌≡◌, ℕ, zero, suc, ◌-◌, ◌*◌, ◌/◌, ◌%◌, ◌^◌, ◌<◌, ◌≤◌, min, Bool, true, false, not, cond, ◌&&◌, eqb, ltb, ◌⊎◌, ◌≢◌, sym, refl, ap, ◌∙◌, subst, inl, inr, add-one, arith, shr_lt}
 use mathlib.Core.Path.{fun_ext}
 use Rattle.std.proofs.Math.Bool.{and-false}
 use lib.Bits.{bit_or, bit_and, and_le_l}
