@@ -80,13 +80,18 @@ none_before p (k ∷ items) h = sum_by-cons (λ (m : Mark). cond (p m) 1 0) k it
     go true l rest = absurd (omega arith)
     go false l rest = omega (arith, rest (omega arith))
 
+-- a pair in some place is marked
+pub listed_at : (items : List Mark) (k u v : ℕ) → k < length items → is_pair (place items k) u v ≡ true → list_marks items u v ≡ true
+listed_at items k u v h e =
+    let some = get_or-le-sum_by (λ (m : Mark). cond {A = ℕ} (is_pair m u v) 1 0) items k (mark_of 0 0) h in
+    listed_true items u v (omega (arith, some, ap (λ (t : Bool). cond {A = ℕ} t 1 0) e))
+
 -- a place that is found has the pair
 pub found_there : (items : List Mark) (u v k : ℕ) → position (λ m. is_pair m u v) items ≡ Some k
     → (k < length items) × (is_pair (place items k) u v ≡ true) × (list_marks items u v ≡ true)
 found_there items u v k e =
     let p = position-Some (λ m. is_pair m u v) items k (mark_of 0 0) e in
-    let some = get_or-le-sum_by (λ (m : Mark). cond {A = ℕ} (is_pair m u v) 1 0) items k (mark_of 0 0) p.0 in
-    (p.0, p.1, listed_true items u v (omega (arith, some, ap (λ (t : Bool). cond {A = ℕ} t 1 0) p.1)))
+    (p.0, p.1, listed_at items k u v p.0 p.1)
 
 pub found_nowhere : (items : List Mark) (u v : ℕ) → position (λ m. is_pair m u v) items ≡ None → list_marks items u v ≡ false
 found_nowhere items u v = go (nat_lt (position_or_len p items) (length items)) refl
