@@ -1,5 +1,5 @@
 -- A folder follows the account, call by call. Assumes nothing.
-use Rattle.std.proofs.Common.{◌≡◌, ℕ, zero, suc, Result, sym, refl, ap, ◌∙◌, subst}
+use Rattle.std.proofs.Common.{◌≡◌, ℕ, zero, suc, Result, Ok, Err, Option, None, Some, sym, refl, ap, ◌∙◌, subst}
 use Rattle.model.specs.declared.decline.Decline.{Decline}
 use Rattle.model.specs.Refusals.{answer_number}
 use Rattle.model.specs.Views.{View}
@@ -13,12 +13,12 @@ use Rattle.archive.specs.declared.call.Call.{Call}
 use Rattle.archive.specs.declared.call.Call.TheVariants.{Enter, Mark, Strike, SetAside, BringBack, Loose, Strict, Unit as Units, Ratio, Wrong}
 use Rattle.archive.specs.declared.answer.Answer.{Answer}
 use Rattle.archive.specs.Accounts.{told, stands_in, next}
-use Rattle.archive.specs.declared.answer.Answer.TheVariants.{Declined}
+use Rattle.archive.specs.declared.answer.Answer.TheVariants.{Taken, Declined}
 use Rattle.model.specs.declared.decline.Decline.TheVariants.{WrongLine}
 use Rattle.model.specs.declared.thresholds.Thresholds.{Thresholds}
 use Rattle.archive.specs.Told.{LooseTold, StrictTold, UnitTold, RatioTold}
-use Rattle.archive.specs.Right.{Tells, declined, Right}
-use Rattle.archive.specs.Following.{Tidy, Tended}
+use Rattle.archive.specs.Right.{Tells, Plain, declined, Right}
+use Rattle.archive.specs.Following.{Tidy, Tended, Answered, ChangeBy}
 use Rattle.archive.proofs.Plainly.{plainly}
 use Rattle.archive.proofs.Tidying.{seen_told, entered_noted, tidy_noted, tidy_aside, tidy_back}
 
@@ -103,8 +103,27 @@ module _ {a : Account} {c : Call} {x : Answer} where
   ratio_answered is = grading_answered Ratio RatioTold is refl (λ m. m)
 
 -- a wrong line
-pub wrong_answered : {a : Account} {c : Call} → c ≡ Wrong → Tended Right a c a (Declined WrongLine)
-wrong_answered {a} is = record {
+pub wrong_answered : {a : Account} {c : Call} {x : Answer} → c ≡ Wrong → x ≡ Declined WrongLine → Tended Right a c a x
+wrong_answered {a} {c} {x} is told = record {
   follows = λ tidy. record { account = ap (next a) (sym is); tidy = tidy };
-  right = λ tidy. subst (λ (k : Call). Right a k (Declined WrongLine)) (sym is) (declined WrongLine refl);
+  right = λ tidy. subst (λ (k : Call). Right a k x) (sym is) (subst (Plain 17) (sym told) (declined WrongLine refl));
 }
+
+-- the answer that a result has
+abbrev pub answer_of : Result (Unit {0}) Decline → Answer
+answer_of (Ok x) = Taken
+answer_of (Err d) = Declined d
+
+pub tells_of : (r : Result (Unit {0}) Decline) → Tells r (answer_of r)
+tells_of (Ok x) = refl
+tells_of (Err d) = refl
+
+-- a call that asks nothing, or none: the account stays tidy, and each answer that tells the result is one to the call
+module _ (a b : Account) (c : Call) where
+  pub changed_tidy : (r : Option (Result (Unit {0}) Decline)) → ChangeBy (Tended Right) a c b r → Tidy a → Tidy b
+  changed_tidy None kept tidy = subst Tidy (sym kept.1) tidy
+  changed_tidy (Some made) p tidy = ((p.1 (answer_of made) (tells_of made)).follows tidy).tidy
+
+  pub changed_answered : (r : Option (Result (Unit {0}) Decline)) → ChangeBy (Tended Right) a c b r → Tidy a → ChangeBy Answered a c b r
+  changed_answered None kept tidy = kept
+  changed_answered (Some made) p tidy = (p.0, λ x tells. record { account = ((p.1 x tells).follows tidy).account; right = (p.1 x tells).right tidy })

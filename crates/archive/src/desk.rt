@@ -1,10 +1,10 @@
 // A folder and the memory of its gradings: calls are taken one by one, and each has its answer.
-ghost use Rattle.std.specs.Prelude.{◌≡◌};
+ghost use Rattle.std.specs.Prelude.{◌≡◌, true};
 ghost use Rattle.sheet.specs.Views.{meaning_of};
 ghost use Rattle.layers.specs.Folders.{opened};
 ghost use Rattle.layers.specs.FolderCalls.{account_of};
 ghost use Rattle.archive.specs.Right.{Tells, Right};
-ghost use Rattle.archive.specs.Following.{Tidy, Tended, Answered};
+ghost use Rattle.archive.specs.Following.{Tidy, Tended, Answered, asks, ChangeBy};
 
 use crate::answer::Answer;
 use crate::call::Call;
@@ -47,22 +47,33 @@ impl Rooms {
     }
 }
 
-// One call: what it makes of the folder's account, and its answer.
-#[tactic(auto, using(crate::proofs::Following::enter_answered, crate::proofs::Following::mark_answered, crate::proofs::Following::strike_answered, crate::proofs::Following::aside_answered, crate::proofs::Following::back_answered, crate::proofs::Following::loose_answered, crate::proofs::Following::strict_answered, crate::proofs::Following::units_answered, crate::proofs::Following::ratio_answered, crate::proofs::Following::wrong_answered))]
-fn answer_in<S: Sheet>(folder: &mut Folder<S>, rooms: &mut Rooms, call: Call) -> Answer
-    ensures { Tended Right (account_of S.Sheet folder.old) call (account_of S.Sheet folder.new) result }
+// A call that asks nothing: what it makes of the folder's account, and whether it is taken. None for a question, and then nothing is done.
+fn change_in<S: Sheet>(folder: &mut Folder<S>, call: Call) -> Option<Result<(), Decline>>
+    ensures { ChangeBy (Tended Right) (account_of S.Sheet folder.old) call (account_of S.Sheet folder.new) result }
 {
     match call {
-        Call::Enter(u) => folder.enter(u).into(),
-        Call::Mark(u, v) => folder.mark(u, v).into(),
-        Call::Strike(u, v) => folder.strike(u, v).into(),
-        Call::SetAside(u) => folder.set_aside(u).into(),
-        Call::BringBack(u) => folder.bring_back(u).into(),
+        Call::Enter(u) => Some(folder.enter(u)),
+        Call::Mark(u, v) => Some(folder.mark(u, v)),
+        Call::Strike(u, v) => Some(folder.strike(u, v)),
+        Call::SetAside(u) => Some(folder.set_aside(u)),
+        Call::BringBack(u) => Some(folder.bring_back(u)),
+        Call::Wrong => Some(Err(Decline::WrongLine)),
+        Call::Loose(_) | Call::Strict(_) | Call::Unit | Call::Ratio => None,
+    }
+}
+
+// A question, and its answer.
+#[tactic(auto, using(crate::proofs::Following::loose_answered, crate::proofs::Following::strict_answered, crate::proofs::Following::units_answered, crate::proofs::Following::ratio_answered))]
+fn ask_in<S: Sheet>(folder: &Folder<S>, rooms: &mut Rooms, call: Call) -> Answer
+    requires { asks call ≡ true }
+    ensures { Tended Right (account_of S.Sheet folder.now) call (account_of S.Sheet folder.now) result }
+{
+    match call {
         Call::Loose(thresholds) => loose_answer(folder, thresholds, &mut rooms.wholes.lend()),
         Call::Strict(thresholds) => strict_answer(folder, thresholds, &mut rooms.pairs.lend()),
         Call::Unit => unit_answer(folder, &mut rooms.units.lend()),
         Call::Ratio => ratio_answer(folder, &mut rooms.wholes.lend()),
-        Call::Wrong => Answer::Declined(Decline::WrongLine),
+        _ => unreachable!(),
     }
 }
 
@@ -92,11 +103,22 @@ impl<S: Sheet> Desk<S> {
         &self.folder
     }
 
+    // A call that asks nothing is made, without an answer of its own: whether it is taken, or by what it is declined. None for a
+    // question, which is not asked, and the folder is kept.
+    pub fn change(&mut self, call: Call) -> Option<Result<(), Decline>>
+        ensures { ChangeBy Answered (account_of S.Sheet self.old.folder) call (account_of S.Sheet self.new.folder) result }
+    {
+        change_in(&mut self.folder, call)
+    }
+
     // One call: it is taken, or declined by the first check that fails, as the account says; gradings and the least ratio are answered by
     // what then stands. No call is declined by 1.
     pub fn answer(&mut self, call: Call) -> Answer
         ensures { Answered (account_of S.Sheet self.old.folder) call (account_of S.Sheet self.new.folder) result }
     {
-        answer_in(&mut self.folder, &mut self.rooms, call)
+        match self.change(call) {
+            Some(made) => made.into(),
+            None => ask_in(&self.folder, &mut self.rooms, call),
+        }
     }
 }

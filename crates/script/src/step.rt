@@ -16,6 +16,9 @@ pub fn step<S: Sheet>(desk: &mut Desk<S>, line: &[u8], out: &mut [u8]) -> Result
     if out.len() < 2048 {
         return Err(Decline::TooLittleMemory);
     }
-    let answer = desk.answer(call_in(bare(line)));
-    print(&answer, out)
+    let call = call_in(bare(line));
+    match desk.change(call) {
+        Some(made) => print(&made.into(), out),
+        None => print(&desk.answer(call), out),
+    }
 }
